@@ -1,0 +1,12 @@
+pub mod TimeLaws
+pub mod NumberLaws
+pub mod ItemLaws
+pub mod HeaderLaws
+pub mod FieldLaws
+pub mod Stands
+pub mod RoundTrip
+pub mod Opened
+pub mod FieldInverse
+pub mod Inverse
+pub mod Unique
+pub mod Vectors

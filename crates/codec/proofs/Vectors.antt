@@ -1,0 +1,93 @@
+-- Worked examples on bytes. Assumes nothing.
+use Prim.Native.Nat.{ℕ}
+use mathlib.Core.Path.{_≡_, refl}
+use mathlib.Core.Bool.{true}
+use mathlib.Core.List.{List, [], _∷_}
+use Rattle.codec.specs.Number.{word, fits, get8Of, get16Of, get32Of, partOf}
+use Rattle.codec.specs.Ident.{kindIn, canZero, canRange, canFd, flexrayRange, identBytes}
+use Rattle.codec.specs.Item.{encode}
+use Rattle.codec.specs.Field.{readFlags, readState, canIdent, flexrayIdent, readCan, readFlexray, readIdent, readLoad, readItem, bytesAt}
+use Rattle.codec.specs.Header.{readHeader}
+use Rattle.codec.specs.Time.{ns, elapsed, ticksOf, recoveredOf}
+use Rattle.codec.specs.declared.time.Time.{Time}
+use Rattle.codec.specs.declared.time.Elapsed.the-variants as Elapsed
+use Rattle.codec.specs.declared.ident.Kind.the-variants as Kind
+use Rattle.codec.specs.declared.ident.Ident.the-variants as Ident
+use Rattle.codec.specs.declared.item.State.the-variants as State
+use Rattle.codec.specs.declared.item.Item.{Item}
+use Rattle.codec.specs.declared.field.IdentRead.the-variants as IdentRead
+use Rattle.codec.specs.declared.field.ItemRead.the-variants as ItemRead
+use Rattle.codec.specs.declared.header.HeaderRead.the-variants as HeaderRead
+
+-- a frame of two CAN items, the second with a state, after 14 bytes of header
+abbrev frame : List ℕ
+frame =
+    0x01 ∷ 0x00 ∷ 0x00 ∷ 0x00 ∷ 0x00 ∷ 0x00 ∷ 0x00 ∷ 0x10 ∷ 0x00 ∷ 0x00 ∷ 0x00 ∷ 0x00 ∷ 0x00 ∷ 0x16
+    ∷ 0x00 ∷ 0x00 ∷ 0x61 ∷ 0x05 ∷ 0x00 ∷ 0x00 ∷ 0x01 ∷ 0x23 ∷ 0x02 ∷ 0x01 ∷ 0x02
+    ∷ 0x00 ∷ 0x02 ∷ 0xe1 ∷ 0x05 ∷ 0x40 ∷ 0xc1 ∷ 0xab ∷ 0xcd ∷ 0xef ∷ 0x01 ∷ 0xaa
+    ∷ []
+
+abbrev one : Item
+one = record { offset = record { 0 = 0 }; network = 5; state = State.Absent; ident = Ident.Can 0x123; carries = true }
+
+abbrev two : Item
+two = record { offset = record { 0 = 2 }; network = 5; state = State.Byte 0x40; ident = Ident.Can 0xc1abcdef; carries = true }
+
+header : readHeader frame ≡ HeaderRead.Got (record { sequence = 0; time = record { sec = 16; nano = 0 }; length = 22 })
+unfolding readHeader word
+header = refl
+
+item-one : readItem frame 14 ≡ ItemRead.Got one 23 2 25
+unfolding readItem readFlags readState readIdent readCan canIdent readLoad get8Of get16Of get32Of partOf fits word kindIn canZero canRange canFd
+item-one = refl
+
+item-two : readItem frame 25 ≡ ItemRead.Got two 35 1 36
+unfolding readItem readFlags readState readIdent readCan canIdent readLoad get8Of get16Of get32Of partOf fits word kindIn canZero canRange canFd
+item-two = refl
+
+payload-one : bytesAt frame 23 2 ≡ 0x01 ∷ 0x02 ∷ []
+unfolding bytesAt fits
+payload-one = refl
+
+-- the first item as bytes
+written : encode one (0x01 ∷ 0x02 ∷ []) ≡ 0x00 ∷ 0x00 ∷ 0x61 ∷ 0x05 ∷ 0x00 ∷ 0x00 ∷ 0x01 ∷ 0x23 ∷ 0x02 ∷ 0x01 ∷ 0x02 ∷ []
+unfolding encode
+written = refl
+
+-- a FlexRay id on both channels, slot 1027, cycle 63, there and back
+flexray : identBytes (Ident.FlexRay 3 1027 63) ≡ 0xcc ∷ 0x03 ∷ 0x3f ∷ []
+flexray = refl
+
+flexray-back : readIdent (0xcc ∷ 0x03 ∷ 0x3f ∷ []) 0 Kind.FlexRay true ≡ IdentRead.Got (Ident.FlexRay 3 1027 63) 3
+unfolding readIdent readFlexray flexrayIdent partOf fits flexrayRange
+flexray-back = refl
+
+-- P2 to P5 of 01 on the measure
+under-a-tick : elapsed 0 9999 ≡ Elapsed.Ticks (record { 0 = 0 })
+unfolding elapsed ticksOf
+under-a-tick = refl
+
+one-tick : elapsed 0 10000 ≡ Elapsed.Ticks (record { 0 = 1 })
+unfolding elapsed ticksOf
+one-tick = refl
+
+last-tick : elapsed 0 655359999 ≡ Elapsed.Ticks (record { 0 = 65535 })
+unfolding elapsed ticksOf
+last-tick = refl
+
+too-far : elapsed 0 655360000 ≡ Elapsed.TooFar
+unfolding elapsed ticksOf
+too-far = refl
+
+over-the-second : elapsed (ns (record { sec = 9; nano = 999999000 })) (ns (record { sec = 10; nano = 9000 })) ≡ Elapsed.Ticks (record { 0 = 1 })
+unfolding elapsed ticksOf
+over-the-second = refl
+
+backwards : elapsed 1 0 ≡ Elapsed.Backwards
+unfolding elapsed ticksOf
+backwards = refl
+
+-- into the second after the last one that a header can hold
+past-the-last : recoveredOf (record { sec = 281474976710655; nano = 999990000 }) 1 ≡ record { sec = 281474976710656; nano = 0 }
+unfolding recoveredOf
+past-the-last = refl

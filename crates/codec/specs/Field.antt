@@ -1,0 +1,147 @@
+-- What reading the fields of an item finds, left to right, missing bytes before a wrong value
+-- (01, "Reading a frame").
+use Prim.Native.Nat.{ℕ, _+_, _*_, _/_, _%_, _^_}
+use mathlib.Core.Bool.{Bool, true, false, not}
+use mathlib.Core.List.{List, []}
+use lib.ListN.{take, drop, getD}
+use lib.Dec.{ltb, eqb}
+use Rattle.codec.specs.Choice.{pick}
+use Rattle.codec.specs.Number.{fits, get8Of, get16Of, get32Of, partOf, open8, open16, open32, openPart}
+use Rattle.codec.specs.Ident.{kindIn, openKind, canZero, canRange, flexrayRange, mostOf}
+use Rattle.codec.specs.Item.{setOk, stateOk}
+use Rattle.codec.specs.declared.refusal.Refusal.{Refusal}
+use Rattle.codec.specs.declared.refusal.Refusal.the-variants as Refusal
+use Rattle.codec.specs.declared.ident.Kind.{Kind}
+use Rattle.codec.specs.declared.ident.Kind.the-variants as Kind
+use Rattle.codec.specs.declared.ident.Ident.{Ident}
+use Rattle.codec.specs.declared.ident.Ident.the-variants as Ident
+use Rattle.codec.specs.declared.item.State.{State}
+use Rattle.codec.specs.declared.item.State.the-variants as State
+use Rattle.codec.specs.declared.item.Item.{Item}
+use Rattle.codec.specs.declared.field.FlagsRead.{FlagsRead}
+use Rattle.codec.specs.declared.field.FlagsRead.the-variants as FlagsRead
+use Rattle.codec.specs.declared.field.StateRead.{StateRead}
+use Rattle.codec.specs.declared.field.StateRead.the-variants as StateRead
+use Rattle.codec.specs.declared.field.IdentRead.{IdentRead}
+use Rattle.codec.specs.declared.field.IdentRead.the-variants as IdentRead
+use Rattle.codec.specs.declared.field.LoadRead.{LoadRead}
+use Rattle.codec.specs.declared.field.LoadRead.the-variants as LoadRead
+use Rattle.codec.specs.declared.field.ItemRead.{ItemRead}
+use Rattle.codec.specs.declared.field.ItemRead.the-variants as ItemRead
+
+-- the refusal of a field is the refusal of the item
+abbrev pub whyFlags : FlagsRead → ItemRead
+whyFlags (FlagsRead.Got kind set next) = ItemRead.Refused Refusal.Missing
+whyFlags (FlagsRead.Refused why) = ItemRead.Refused why
+
+abbrev pub whyState : StateRead → ItemRead
+whyState (StateRead.Got state next) = ItemRead.Refused Refusal.Missing
+whyState (StateRead.Refused why) = ItemRead.Refused why
+
+abbrev pub whyIdent : IdentRead → ItemRead
+whyIdent (IdentRead.Got ident next) = ItemRead.Refused Refusal.Missing
+whyIdent (IdentRead.Refused why) = ItemRead.Refused why
+
+abbrev pub whyLoad : LoadRead → ItemRead
+whyLoad (LoadRead.Got start len next) = ItemRead.Refused Refusal.Missing
+whyLoad (LoadRead.Refused why) = ItemRead.Refused why
+
+-- an answer opened: what to do with what was got; a refusal goes straight up
+abbrev pub openFlags : FlagsRead → (Kind → ℕ → ℕ → ItemRead) → ItemRead
+openFlags (FlagsRead.Got kind set next) k = k kind set next
+openFlags (FlagsRead.Refused why) k = ItemRead.Refused why
+
+abbrev pub openState : StateRead → (State → ℕ → ItemRead) → ItemRead
+openState (StateRead.Got state next) k = k state next
+openState (StateRead.Refused why) k = ItemRead.Refused why
+
+abbrev pub openIdent : IdentRead → (Ident → ℕ → ItemRead) → ItemRead
+openIdent (IdentRead.Got ident next) k = k ident next
+openIdent (IdentRead.Refused why) k = ItemRead.Refused why
+
+abbrev pub openLoad : LoadRead → (ℕ → ℕ → ℕ → ItemRead) → ItemRead
+openLoad (LoadRead.Got start len next) k = k start len next
+openLoad (LoadRead.Refused why) k = ItemRead.Refused why
+
+-- 24 network type, then 26 flags
+unfoldable pub readFlags : List ℕ → ℕ → FlagsRead
+readFlags s at =
+    open8 (get8Of s at)
+    (λ b next. openKind (kindIn (b % 32))
+    (λ kind. pick (setOk (b / 32)) (FlagsRead.Got kind (b / 32) next) (FlagsRead.Refused Refusal.Flags))
+    (FlagsRead.Refused Refusal.Network))
+    (FlagsRead.Refused Refusal.Missing)
+
+-- 25 LIN state bits
+unfoldable pub readState : List ℕ → ℕ → Kind → Bool → StateRead
+readState s at kind present =
+    pick present
+    (open8 (get8Of s at)
+    (λ b next. pick (stateOk kind (State.Byte b)) (StateRead.Got (State.Byte b) next) (StateRead.Refused Refusal.Reserved))
+    (StateRead.Refused Refusal.Missing))
+    (StateRead.Got State.Absent at)
+
+-- 25 CAN bit 29, then 29 id
+unfoldable pub canIdent : ℕ → ℕ → IdentRead
+canIdent key next =
+    pick (canZero key)
+    (pick (canRange key) (IdentRead.Got (Ident.Can key) next) (IdentRead.Refused Refusal.Range))
+    (IdentRead.Refused Refusal.Reserved)
+
+unfoldable pub readCan : List ℕ → ℕ → IdentRead
+readCan s at = open32 (get32Of s at) canIdent (IdentRead.Refused Refusal.Missing)
+
+unfoldable pub readLin : List ℕ → ℕ → IdentRead
+readLin s at = open8 (get8Of s at) (λ pid next. IdentRead.Got (Ident.Lin pid) next) (IdentRead.Refused Refusal.Missing)
+
+-- 25 FlexRay bits 5 and 4 or a clear bit 3, then 29 channel, slot and cycle
+unfoldable pub flexrayIdent : ℕ → ℕ → ℕ → ℕ → IdentRead
+flexrayIdent front low cycle next =
+    pick (eqb (front / 8 % 8) 1)
+    (pick (flexrayRange (front / 64) (front % 8 * 256 + low) cycle)
+    (IdentRead.Got (Ident.FlexRay (front / 64) (front % 8 * 256 + low) cycle) next)
+    (IdentRead.Refused Refusal.Range))
+    (IdentRead.Refused Refusal.Reserved)
+
+unfoldable pub readFlexray : List ℕ → ℕ → IdentRead
+readFlexray s at =
+    openPart (partOf s at 3)
+    (λ next. flexrayIdent (getD s at 0) (getD s (at + 1) 0) (getD s (at + 2) 0) next)
+    (IdentRead.Refused Refusal.Missing)
+
+abbrev pub identAs : Kind → List ℕ → ℕ → IdentRead
+identAs Kind.Can s at = readCan s at
+identAs Kind.Lin s at = readLin s at
+identAs Kind.FlexRay s at = readFlexray s at
+
+unfoldable pub readIdent : List ℕ → ℕ → Kind → Bool → IdentRead
+readIdent s at kind present = pick present (identAs kind s at) (IdentRead.Got (Ident.Bare kind) at)
+
+-- 27 payload length; an item without payload has an empty part
+unfoldable pub readLoad : List ℕ → ℕ → ℕ → Bool → LoadRead
+readLoad s at most present =
+    pick present
+    (open8 (get8Of s at)
+    (λ n start. pick (ltb most n) (LoadRead.Refused Refusal.Payload)
+    (openPart (partOf s start n) (λ next. LoadRead.Got start n next) (LoadRead.Refused Refusal.Missing)))
+    (LoadRead.Refused Refusal.Missing))
+    (LoadRead.Got at 0 at)
+
+-- offset, flags, network id, state, frame id, payload
+unfoldable pub readItem : List ℕ → ℕ → ItemRead
+readItem s at =
+    open16 (get16Of s at) (λ ticks a.
+    openFlags (readFlags s a) (λ kind set b.
+    open8 (get8Of s b) (λ network d.
+    openState (readState s d kind (eqb (set / 4 % 2) 1)) (λ state e.
+    openIdent (readIdent s e kind (eqb (set / 2 % 2) 1)) (λ ident f.
+    openLoad (readLoad s f (mostOf ident) (eqb (set % 2) 1)) (λ start len next.
+    ItemRead.Got
+    (record { offset = record { 0 = ticks }; network = network; state = state; ident = ident; carries = eqb (set % 2) 1 })
+    start len next))))
+    (ItemRead.Refused Refusal.Missing)))
+    (ItemRead.Refused Refusal.Missing)
+
+-- the n bytes of s from index start, or nothing where they are not all there
+unfoldable pub bytesAt : List ℕ → ℕ → ℕ → List ℕ
+bytesAt s start n = pick (fits s start n) (take n (drop start s)) []

@@ -1,0 +1,9 @@
+pub mod Choice
+pub mod Time
+pub mod Number
+pub mod Refusal
+pub mod Ident
+pub mod Item
+pub mod Field
+pub mod Header
+pub mod Layout

@@ -1,0 +1,4 @@
+pub mod AlongLaws
+pub mod FrameLaws
+pub mod Theorems
+pub mod Unique

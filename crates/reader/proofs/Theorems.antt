@@ -1,0 +1,255 @@
+-- Demand 2 for frames as byte strings. Assumes nothing.
+use Prim.Native.Nat.{ℕ, zero, suc, _+_, _-_, _≤_, _<_}
+use mathlib.Core.Path.{_≡_, refl, sym, _∙_, ap}
+use mathlib.Core.Bool.{Bool, true, false, _||_}
+use mathlib.Core.List.{List, [], _∷_, _++_, append-nil}
+use native.Mathlib.Omega.{arith}
+use lib.ListN.{length, getD, take, drop, length-append, take-append-drop}
+use lib.Dec.{ltb, eqb, leb}
+use lib.Seq.{drop-length, drop-drop, take-at, drop-at, length-take-le}
+use borrow.Author.Tests.{leb-true, ltb-true, ltb-false, lt-leb, le-leb, eq-eqb, ne-eqb}
+use Rattle.codec.specs.Choice.{pick}
+use Rattle.codec.specs.Number.{Bytes, over, word, wordAt}
+use Rattle.codec.specs.Time.{recoveredOf}
+use Rattle.codec.specs.Item.{encode, itemOk}
+use Rattle.codec.specs.Field.{readItem, bytesAt}
+use Rattle.codec.specs.Header.{readHeader, headerIn, headerBytes}
+use Rattle.codec.specs.Layout.{Entry, Head, Valid, AllValid, body, layout}
+use Rattle.codec.specs.declared.time.Time.{Time}
+use Rattle.codec.specs.declared.item.Item.{Item}
+use Rattle.codec.specs.declared.refusal.Refusal.{Refusal}
+use Rattle.codec.specs.declared.refusal.Refusal.the-variants as Refusal
+use Rattle.codec.specs.declared.header.Header.{Header}
+use Rattle.codec.specs.declared.header.HeaderRead.{HeaderRead}
+use Rattle.codec.specs.declared.header.HeaderRead.the-variants as HeaderRead
+use Rattle.codec.specs.declared.field.ItemRead.{ItemRead}
+use Rattle.codec.specs.declared.field.ItemRead.the-variants as ItemRead
+use Rattle.codec.proofs.Stands.{Stands, left, right, part-back}
+use Rattle.codec.proofs.Inverse.{read-room, item-forth, header-got, header-forth}
+use Rattle.codec.proofs.RoundTrip.{payloadPlace, item-back, payload-back, header-back}
+use Rattle.codec.proofs.NumberLaws.{word-is}
+use Rattle.codec.proofs.HeaderLaws.{header-length}
+use Rattle.reader.proofs.AlongLaws.{walk-end, walk-item, walk-bad, items-end, items-item, starts-end, starts-item, starts-here, starts-last}
+use Rattle.reader.proofs.FrameLaws.{accepted, not-bad, laid-is, laid-length, body-length}
+use Rattle.reader.specs.declared.frame.Judged.{Judged}
+use Rattle.reader.specs.declared.frame.Judged.the-variants as Judged
+use Rattle.reader.specs.declared.frame.Verdict.{Verdict}
+use Rattle.reader.specs.declared.frame.Verdict.the-variants as Verdict
+use Rattle.reader.specs.declared.place.Stepped.{Stepped}
+use Rattle.reader.specs.declared.place.Stepped.the-variants as Stepped
+use Rattle.reader.specs.Frame.{walkOf, itemsOf, startsOf, Clean, judgeOf, laidOut, stepOf, heldOf, payloadOf, payloadAtOf, itemAtOf, timeIn, rewrittenOf}
+use Rattle.reader.specs.Listing.{Yield, stepping, listing, placesOf, among, Framed}
+
+-- the bytes from a place on are the layout of the items read there, and each item is valid
+module _ (s : List ℕ) (b : Bytes s) where
+  body-is : (n at : ℕ) → at ≤ length s → length s ≤ at + n → Clean s at → (drop at s ≡ body (itemsOf s at)) × AllValid (itemsOf s at)
+  body-is zero at h f c = last at (omega arith)
+    where
+      last : (x : ℕ) → x ≡ length s → (drop x s ≡ body (itemsOf s x)) × AllValid (itemsOf s x)
+      last x e = rw (items-end s x e) (ap (λ (k : ℕ). drop k s) e ∙ drop-length s, tt)
+  body-is (suc n) at h f c = go (λ next. body-is n next) (ltb at (length s)) refl (readItem s at) refl
+    where
+      go : ((next : ℕ) → next ≤ length s → length s ≤ next + n → Clean s next → (drop next s ≡ body (itemsOf s next)) × AllValid (itemsOf s next))
+          → (t : Bool) → ltb at (length s) ≡ t → (r : ItemRead) → readItem s at ≡ r → (drop at s ≡ body (itemsOf s at)) × AllValid (itemsOf s at)
+      go on false e r q =
+          let k : length s ≤ at = ltb-false at (length s) e in
+          let m : at ≡ length s = omega arith in
+          rw (items-end s at m) (ap (λ (x : ℕ). drop x s) m ∙ drop-length s, tt)
+      go on true e (ItemRead.Refused why) q = absurd (not-bad s at c (ltb-true at (length s) e) q)
+      go on true e (ItemRead.Got it start len next) q =
+          let k : at < length s = ltb-true at (length s) e in
+          let r = read-room s at q in
+          let o = item-forth s at b q in
+          let x = on next (r .1) (omega arith) (sym (walk-item s at k q) ∙ c) in
+          let y : take (length (encode it (bytesAt s start len))) (drop at s) ≡ encode it (bytesAt s start len) = part-back (o .stands) in
+          let d : drop (length (encode it (bytesAt s start len))) (drop at s) ≡ drop next s
+          = drop-drop (length (encode it (bytesAt s start len))) at s ∙ ap (λ (k : ℕ). drop k s) (sym (o .ends)) in
+          let j : drop at s ≡ encode it (bytesAt s start len) ++ body (itemsOf s next)
+          = sym (take-append-drop (length (encode it (bytesAt s start len))) (drop at s)) ∙ rw (y, d, x .0) in
+          rw (items-item s at k q) (j, (o .valid, x .1))
+
+  -- what is accepted is a frame of the layout
+  pub accepts : {h : Header} → judgeOf s ≡ Judged.Frame h → Framed s h (itemsOf s 14)
+  unfolding layout
+  accepts {h} j =
+      let a = accepted s j in
+      let v = header-forth s b (a .0) in
+      let g = header-got s (a .0) .long in
+      let x = body-is (length s) 14 g (omega arith) (a .1) in
+      let n = laid-length s b (a .0) (a .1) in
+      let t : s ≡ headerBytes h ++ body (itemsOf s 14) = sym (take-append-drop 14 s) ∙ rw (v .bytes, x .0) in
+      record {
+        head = record { sequence = v .sequence; sec = v .sec; nano = v .nano; total = rw n (v .total) };
+        total = sym n;
+        valid = x .1;
+        bytes = t ∙ ap (λ (k : ℕ). headerBytes (record { sequence = h .sequence; time = h .time; length = k }) ++ body (itemsOf s 14)) (sym n);
+      }
+
+  -- so a rewrite gives the same bytes
+  pub rewrite-same : {h : Header} → judgeOf s ≡ Judged.Frame h → laidOut s h ≡ s
+  unfolding laidOut
+  rewrite-same j = sym (accepts j .bytes)
+
+-- reading a list of valid items that stands at a place to the end of the bytes gives it back
+module _ (s : List ℕ) where
+  read-back : (es : List Entry) (at : ℕ) → AllValid es → Stands s at (body es) → at + length (body es) ≡ length s
+      → (walkOf s at ≡ Verdict.Clean) × (itemsOf s at ≡ es)
+  read-back [] at v w n = let e : at ≡ length s = omega arith in (walk-end s at e, items-end s at e)
+  read-back (e ∷ es) at v w n =
+      let w1 = left (encode (e .item) (e .payload)) (body es) w in
+      let w2 = right (encode (e .item) (e .payload)) (body es) w in
+      let q = item-back s at e (v .0) w1 in
+      let p = payload-back s at e (v .0) w1 in
+      let r = read-room s at q in
+      let k : at < length s = omega arith in
+      let m : at + length (encode (e .item) (e .payload)) + length (body es) ≡ length s
+      = omega (arith, length-append (encode (e .item) (e .payload)) (body es)) in
+      let x = read-back es (at + length (encode (e .item) (e .payload))) (v .1) w2 m in
+      (walk-item s at k q ∙ x .0, items-item s at k q ∙ rw (p, x .1))
+
+-- every frame of the layout is accepted, and read back as its header and its items
+pub complete : (n : ℕ) (t : Time) (es : List Entry) → Head n t es → AllValid es
+    → (judgeOf (layout n t es) ≡ Judged.Frame (record { sequence = n; time = t; length = length (body es) })) × (itemsOf (layout n t es) 14 ≡ es)
+unfolding judgeOf layout
+complete n t es d v =
+    let h : Header = record { sequence = n; time = t; length = length (body es) } in
+    let s : List ℕ = headerBytes h ++ body es in
+    let k : length s ≡ 14 + length (body es) = length-append (headerBytes h) (body es) ∙ ap (λ (x : ℕ). x + length (body es)) (header-length h) in
+    let w0 : Stands s 0 (headerBytes h) = record { pre = []; post = body es; split = refl; len = refl } in
+    let w1 : Stands s 14 (body es) = record { pre = headerBytes h; post = []; split = sym (append-nil s); len = header-length h } in
+    let q : readHeader s ≡ HeaderRead.Got h = header-back s h (d .sequence) (d .sec) (d .nano) (d .total) k w0 in
+    let x = read-back s es 14 v w1 (sym k) in
+    (simp (q, x .0), x .1)
+
+pub framed-read : {s : List ℕ} {h : Header} {es : List Entry} → Framed s h es → (judgeOf s ≡ Judged.Frame h) × (itemsOf s 14 ≡ es)
+framed-read {s} {h} {es} f =
+    let c = complete (h .sequence) (h .time) es (f .head) (f .valid) in
+    let e : _≡_ {A = Header} (record { sequence = h .sequence; time = h .time; length = length (body es) }) h
+    = ap (λ (k : ℕ). record { sequence = h .sequence; time = h .time; length = k }) (sym (f .total)) in
+    (ap judgeOf (f .bytes) ∙ c .0 ∙ ap Judged.Frame e, ap (λ (l : List ℕ). itemsOf l 14) (f .bytes) ∙ c .1)
+
+-- the header and the list are unique
+pub unique : {s : List ℕ} {h k : Header} {es fs : List Entry} → Framed s h es → Framed s k fs → (h ≡ k) × (es ≡ fs)
+unique {s} {h} {k} {es} {fs} f g =
+    let a = framed-read f in
+    let b = framed-read g in
+    let e : Judged.Frame h ≡ Judged.Frame k = sym (a .0) ∙ b .0 in
+    (cc, sym (a .1) ∙ b .1)
+
+or-false : (b : Bool) → b || false ≡ b
+or-false true = refl
+or-false false = refl
+
+or-true : (b : Bool) → b || true ≡ true
+or-true true = refl
+or-true false = refl
+
+-- the place past the last item is among the places
+last-place : (es : List Entry) (at : ℕ) → among (at + length (body es)) (placesOf at es) ≡ true
+last-place [] at = simp (eq-eqb at (at + 0) (omega arith))
+last-place (e ∷ es) at =
+    let n : at + length (body (e ∷ es)) ≡ at + length (encode (e .item) (e .payload)) + length (body es)
+    = omega (arith, length-append (encode (e .item) (e .payload)) (body es)) in
+    rw (n, last-place es (at + length (encode (e .item) (e .payload)))) (or-true (eqb at (at + length (encode (e .item) (e .payload)) + length (body es))))
+
+module _ (s : List ℕ) (b : Bytes s) {h : Header} (j : judgeOf s ≡ Judged.Frame h) where
+  pub time-is : timeIn s ≡ h .time
+  unfolding timeIn
+  time-is =
+      let a = accepted s j in
+      let g = header-got s (a .0) .long in
+      rw (word-is 6 s 2 (omega arith) (omega arith), word-is 4 s 8 (omega arith) (omega arith)) (ap (λ (x : Header). x .time) (header-got s (a .0) .is))
+
+  -- on an accepted frame, at an item or the end, reading without judging is a step
+  pub step-at : (at : ℕ) → startsOf s at 14 ≡ true → stepOf s at ≡ itemAtOf s at
+  unfolding stepOf
+  step-at at e = simp (j, e)
+
+  pub payload-is : (at : ℕ) → startsOf s at 14 ≡ true → payloadOf s at ≡ payloadAtOf s at
+  unfolding payloadOf heldOf
+  payload-is at e = simp (j, e)
+
+  end-at : (at : ℕ) → at ≡ length s → itemAtOf s at ≡ Stepped.End
+  unfolding itemAtOf
+  end-at at e = simp (eq-eqb at (length s) e)
+
+  read-at : (at : ℕ) {it : Item} {start len next : ℕ} → at < length s → readItem s at ≡ ItemRead.Got it start len next
+      → itemAtOf s at ≡ Stepped.Item next (recoveredOf (h .time) (it .offset .0)) it len
+  unfolding itemAtOf
+  read-at at k q = let n : at ≡ length s → ⊥ = λ z. omega arith in simp (ne-eqb at (length s) n, q, time-is)
+
+  load-at : (at : ℕ) {it : Item} {start len next : ℕ} → readItem s at ≡ ItemRead.Got it start len next → payloadAtOf s at ≡ bytesAt s start len
+  unfolding payloadAtOf
+  load-at at q = simp q
+
+  -- the places that an item or the end from `at` on are such places from the first on
+  abbrev Reach : ℕ → Type 0
+  Reach at = (p : ℕ) → startsOf s p at ≡ true → startsOf s p 14 ≡ true
+
+  steps : (n at : ℕ) → at ≤ length s → length s ≤ at + n → Clean s at → Reach at → stepping n s at ≡ listing (h .time) at (itemsOf s at)
+  unfolding stepping
+  steps zero at l f c r = rw (items-end s at (omega arith))
+  steps (suc n) at l f c r = go (λ next. steps n next) (ltb at (length s)) refl (readItem s at) refl
+    where
+      go : ((next : ℕ) → next ≤ length s → length s ≤ next + n → Clean s next → Reach next → stepping n s next ≡ listing (h .time) next (itemsOf s next))
+          → (t : Bool) → ltb at (length s) ≡ t → (x : ItemRead) → readItem s at ≡ x → stepping (suc n) s at ≡ listing (h .time) at (itemsOf s at)
+      go on false e x q =
+          let k : length s ≤ at = ltb-false at (length s) e in
+          let m : at ≡ length s = omega arith in
+          let g : stepOf s at ≡ Stepped.End = step-at at (r at (starts-last s at at m ∙ eq-eqb at at refl)) ∙ end-at at m in
+          rw (items-end s at m) (simp g)
+      go on true e (ItemRead.Refused why) q = absurd (not-bad s at c (ltb-true at (length s) e) q)
+      go on true e (ItemRead.Got it start len next) q =
+          let k : at < length s = ltb-true at (length s) e in
+          let z = read-room s at q in
+          let o = item-forth s at b q in
+          let st : startsOf s at 14 ≡ true = r at (starts-here s at at k refl q) in
+          let g : stepOf s at ≡ Stepped.Item next (recoveredOf (h .time) (it .offset .0)) it len = step-at at st ∙ read-at at k q in
+          let p : payloadOf s at ≡ bytesAt s start len = payload-is at st ∙ load-at at q in
+          let y = on next (z .1) (omega arith) (sym (walk-item s at k q) ∙ c) (λ p v. r p (starts-item s p at k q ∙ rw v (or-true (eqb at p)))) in
+          rw (items-item s at k q, ← o .ends, ← y) (simp (g, p))
+
+  -- the items that stepping from place 14 yields are the frame's, each once, with its recovered time
+  pub steps-yield : stepping (length s) s 14 ≡ listing (h .time) 14 (itemsOf s 14)
+  steps-yield =
+      let a = accepted s j in
+      steps (length s) 14 (header-got s (a .0) .long) (omega arith) (a .1) (λ p e. e)
+
+  -- the chain of places ends at the end of the frame, which says so
+  pub chain-ends : 14 + length (body (itemsOf s 14)) ≡ length s
+  chain-ends =
+      let a = accepted s j in
+      body-length s b (length s) 14 (header-got s (a .0) .long) (omega arith) (a .1)
+
+  -- the places that are taken are those of the items and the end, and no others
+  starts-at : (n at : ℕ) (p : ℕ) → at ≤ length s → length s ≤ at + n → Clean s at → startsOf s p at ≡ among p (placesOf at (itemsOf s at))
+  starts-at zero at p l f c = here at p (omega arith)
+    where
+      here : (x p : ℕ) → x ≡ length s → startsOf s p x ≡ among p (placesOf x (itemsOf s x))
+      here x p m = starts-last s p x m ∙ rw (items-end s x m) (sym (or-false (eqb x p)))
+  starts-at (suc n) at p l f c = go (λ next. starts-at n next p) (ltb at (length s)) refl (readItem s at) refl
+    where
+      go : ((next : ℕ) → next ≤ length s → length s ≤ next + n → Clean s next → startsOf s p next ≡ among p (placesOf next (itemsOf s next)))
+          → (t : Bool) → ltb at (length s) ≡ t → (x : ItemRead) → readItem s at ≡ x → startsOf s p at ≡ among p (placesOf at (itemsOf s at))
+      go on false e x q =
+          let k : length s ≤ at = ltb-false at (length s) e in
+          let m : at ≡ length s = omega arith in
+          starts-last s p at m ∙ rw (items-end s at m) (sym (or-false (eqb at p)))
+      go on true e (ItemRead.Refused why) q = absurd (not-bad s at c (ltb-true at (length s) e) q)
+      go on true e (ItemRead.Got it start len next) q =
+          let k : at < length s = ltb-true at (length s) e in
+          let z = read-room s at q in
+          let o = item-forth s at b q in
+          starts-item s p at k q
+          ∙ rw (items-item s at k q, ← o .ends) (ap (λ (w : Bool). eqb at p || w) (on next (z .1) (omega arith) (sym (walk-item s at k q) ∙ c)))
+
+  pub starts-exactly : (p : ℕ) → startsOf s p 14 ≡ among p (placesOf 14 (itemsOf s 14))
+  starts-exactly p =
+      let a = accepted s j in
+      starts-at (length s) 14 p (header-got s (a .0) .long) (omega arith) (a .1)
+
+  -- the last of them is the end of the frame, which says so
+  pub end-says : stepOf s (length s) ≡ Stepped.End
+  end-says =
+      let m : among (length s) (placesOf 14 (itemsOf s 14)) ≡ true = rw (← chain-ends) (last-place (itemsOf s 14) 14) in
+      step-at (length s) (starts-exactly (length s) ∙ m) ∙ end-at (length s) refl

@@ -1,0 +1,20 @@
+use mathlib.Core.Path.{_≡_, refl, sym, ap, _∙_}
+use Rattle.reader.specs.Frame.{judgeOf, whyHeader}
+use Rattle.codec.proofs.Inverse.{header-got}
+use borrow.Author.Needs.{needs}
+use Rattle.reader.proofs.frame.judge.Statement.{statement}
+use Rattle.reader.proofs.frame.judge.Tie as tie
+
+pub judge-spec : {M : Type 1} → statement M
+unfolding judgeOf
+judge-spec =
+    tie.close
+    (tie.spec
+    (λ c κs. search needs)
+    (λ c. search needs)
+    (λ c. search needs)
+    (λ c κs. search needs)
+    (λ c. c .why-header .ensures ∙ ap whyHeader (c .before .enum-told .given .1) ∙ simp (sym (c .before .before .before .read-header .ensures) ∙ c .before .enum-told .given .1))
+    (λ c κs. header-got _ (sym (c .before .before .before .read-header .ensures) ∙ c .before .read .given .1) .long)
+    (λ c κs. search needs)
+    (λ c. c .why-walk .ensures ∙ simp (sym (c .before .before .before .before .before .read-header .ensures) ∙ c .before .before .before .read .given .1, c .before .walk .ensures)))

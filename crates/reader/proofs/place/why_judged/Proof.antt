@@ -1,0 +1,14 @@
+use mathlib.Core.Path.{_≡_, refl, sym, ap, _∙_}
+use Rattle.reader.specs.Frame.{whyJudged}
+use borrow.Author.Needs.{needs}
+use Rattle.reader.proofs.place.why_judged.Statement.{statement}
+use Rattle.reader.proofs.place.why_judged.Tie as tie
+
+pub why-judged-spec : {M : Type 1} → statement M
+why-judged-spec =
+    tie.close
+    (tie.spec
+    (λ c. search needs)
+    (λ c. search needs)
+    (λ c. sym (ap whyJudged (c .enum-told .given .1)))
+    (λ c. sym (ap whyJudged (c .before .r .given .1))))

@@ -1,0 +1,6 @@
+pub mod Choice
+pub mod Digit
+pub mod Number
+pub mod Put
+pub mod Line
+pub mod Bytes

@@ -1,0 +1,203 @@
+use super::*;
+
+/// The frame of the worked example: two CAN items, the second with a state byte.
+const EXAMPLE: [u8; 36] = [
+    0x01, 0x00, 0x00, 0x00, 0x00, 0x00, 0x00, 0x10, 0x00, 0x00, 0x00, 0x00, 0x00, 0x16, //
+    0x00, 0x00, 0x61, 0x05, 0x00, 0x00, 0x01, 0x23, 0x02, 0x01, 0x02, //
+    0x00, 0x02, 0xE1, 0x05, 0x40, 0xC1, 0xAB, 0xCD, 0xEF, 0x01, 0xAA,
+];
+
+/// A frame around the given item bytes, with a right header.
+fn framed(items: &[u8]) -> Vec<u8> {
+    let mut frame = EXAMPLE[..12].to_vec();
+    frame.extend_from_slice(&(items.len() as u16).to_be_bytes());
+    frame.extend_from_slice(items);
+    frame
+}
+
+fn refusal(items: &[u8]) -> u8 {
+    read(&framed(items)).err().unwrap_or(0)
+}
+
+#[test]
+fn the_example_reads_back_item_by_item() {
+    let header = read(&EXAMPLE).unwrap().header;
+    let sixteen = Time {
+        seconds: 16,
+        nanos: 0,
+    };
+    assert_eq!(
+        header,
+        Header {
+            sequence: 0,
+            time: sixteen,
+            data_length: 22
+        }
+    );
+    let first = Item {
+        time: sixteen,
+        kind: Kind::Can,
+        network: 5,
+        state: None,
+        id: Some(Id::Can(0x123)),
+        payload: Some(&[1, 2]),
+    };
+    let second = Item {
+        time: Time {
+            seconds: 16,
+            nanos: 20_000,
+        },
+        state: Some(0x40),
+        id: Some(Id::Can(0xC1AB_CDEF)),
+        payload: Some(&[0xAA]),
+        ..first
+    };
+    let item = |start, next, item| Ok(Step::Item(Placed { start, next, item }));
+    assert_eq!(step(&EXAMPLE, 14), item(14, 25, first));
+    assert_eq!(step(&EXAMPLE, 25), item(25, 36, second));
+    assert_eq!(step(&EXAMPLE, 36), Ok(Step::End));
+    for place in [0, 13, 15, 24, 26, 35, 37, u64::MAX, (1 << 32) + 14] {
+        assert_eq!(step(&EXAMPLE, place), Err(30), "{place}");
+        assert_eq!(payload(&EXAMPLE, place), Err(30), "{place}");
+    }
+}
+
+#[test]
+fn a_payload_is_a_part_of_the_frame() {
+    let part = payload(&EXAMPLE, 14).unwrap();
+    assert_eq!(part, [1, 2]);
+    assert!(std::ptr::eq(part, &EXAMPLE[23..25]));
+    assert_eq!(payload(&EXAMPLE, 36), Ok([].as_slice()));
+}
+
+#[test]
+fn a_frame_without_items_is_accepted() {
+    let frame = framed(&[]);
+    assert!(read(&frame).unwrap().items.is_empty());
+    assert_eq!(step(&frame, 14), Ok(Step::End));
+}
+
+#[test]
+fn header_causes_in_order() {
+    let mut frame = EXAMPLE.to_vec();
+    frame[13] = 0;
+    assert_eq!(read(&frame), Err(22));
+    frame[8..12].copy_from_slice(&1_000_000_000u32.to_be_bytes());
+    assert_eq!(read(&frame), Err(28));
+    frame[0] = 2;
+    assert_eq!(read(&frame), Err(21));
+    assert_eq!(read(&frame[..13]), Err(20));
+    assert_eq!(step(&frame[..13], 99), Err(20));
+    assert_eq!(read(&[]), Err(20));
+}
+
+#[test]
+fn the_last_nanosecond_passes() {
+    let mut frame = framed(&[]);
+    frame[8..12].copy_from_slice(&999_999_999u32.to_be_bytes());
+    assert_eq!(read(&frame).unwrap().header.time.nanos, 999_999_999);
+}
+
+#[test]
+fn a_longer_frame_than_data_length_can_say() {
+    let mut frame = vec![0; 14 + 65_536];
+    frame[0] = 1;
+    assert_eq!(read(&frame), Err(22));
+}
+
+#[test]
+fn an_item_cut_at_any_byte_misses_bytes() {
+    let whole = &EXAMPLE[25..];
+    for end in 1..whole.len() {
+        assert_eq!(refusal(&whole[..end]), 23, "{end}");
+    }
+    assert_eq!(refusal(whole), 0);
+}
+
+#[test]
+fn within_the_flag_byte_the_network_type_goes_first() {
+    assert_eq!(refusal(&[0, 0, 0x00]), 24);
+    assert_eq!(refusal(&[0, 0, 0x04]), 24);
+    assert_eq!(refusal(&[0, 0, 0xff]), 24);
+    for flags in [0x01, 0x21, 0x41, 0xA1] {
+        assert_eq!(refusal(&[0, 0, flags]), 26, "{flags:#x}");
+    }
+    assert_eq!(refusal(&[0, 0, 0x81]), 23);
+}
+
+#[test]
+fn lin_state_bits() {
+    for state in 0..=255u8 {
+        let wrong = state & 0x30 != 0;
+        let expected = if wrong { 25 } else { 0 };
+        assert_eq!(refusal(&[0, 0, 0x82, 7, state]), expected, "{state:#x}");
+        let cut = if wrong { 25 } else { 23 };
+        assert_eq!(refusal(&[0, 0, 0xC2, 7, state]), cut, "{state:#x}");
+    }
+}
+
+#[test]
+fn other_state_bits_pass() {
+    for state in [0x00, 0x30, 0x3f, 0xff] {
+        assert_eq!(refusal(&[0, 0, 0x81, 7, state]), 0);
+        assert_eq!(refusal(&[0, 0, 0x83, 7, state]), 0);
+    }
+}
+
+#[test]
+fn can_ids() {
+    let with = |key: u32| refusal(&[&[0, 0, 0x61, 7], &key.to_be_bytes()[..], &[0]].concat());
+    assert_eq!(with(2_047), 0);
+    assert_eq!(with(2_048), 29);
+    assert_eq!(with(CAN_RESERVED | 2_048), 25);
+    assert_eq!(with(0x4000_0800), 29);
+    assert_eq!(with(0x9fff_ffff), 0);
+    assert_eq!(with(0xdfff_ffff), 0);
+    assert_eq!(with(0xffff_ffff), 25);
+}
+
+#[test]
+fn flexray_ids() {
+    let with = |id: [u8; 3]| refusal(&[&[0, 0, 0x63, 7], &id[..], &[0]].concat());
+    assert_eq!(with([0xcc, 0x03, 0x3f]), 0);
+    assert_eq!(with([0x48, 0x01, 0x00]), 0);
+    assert_eq!(with([0x08, 0x01, 0x00]), 29);
+    assert_eq!(with([0x88, 0x00, 0x00]), 29);
+    assert_eq!(with([0x8f, 0xff, 0x40]), 29);
+    assert_eq!(with([0x80, 0x01, 0x00]), 25);
+    assert_eq!(with([0x98, 0x01, 0x00]), 25);
+    assert_eq!(with([0xa8, 0x01, 0x00]), 25);
+    // A reserved bit before the ranges, although no channel, slot 0 and cycle 64 hold too.
+    assert_eq!(with([0x00, 0x00, 0x40]), 25);
+    // The whole id is one field: its missing bytes go before its reserved bits.
+    assert_eq!(refusal(&[0, 0, 0x63, 7, 0x00, 0x00]), 23);
+}
+
+#[test]
+fn payload_lengths() {
+    let with = |head: &[u8], length: usize| {
+        refusal(&[head, &[length as u8], &vec![0; length][..]].concat())
+    };
+    let kinds: [(&[u8], usize); 4] = [
+        (&[0, 0, 0x61, 7, 0, 0, 0, 1], 8),
+        (&[0, 0, 0x61, 7, 0x40, 0, 0, 1], 64),
+        (&[0, 0, 0x62, 7, 0xff], 8),
+        (&[0, 0, 0x63, 7, 0x48, 1, 0], 254),
+    ];
+    for (head, longest) in kinds {
+        assert_eq!(with(head, 0), 0);
+        assert_eq!(with(head, longest), 0);
+        assert_eq!(with(head, longest + 1), 27);
+        // The length is judged before the payload is missed.
+        assert_eq!(refusal(&[head, &[longest as u8 + 1]].concat()), 27);
+        assert_eq!(refusal(&[head, &[longest as u8]].concat()), 23);
+    }
+}
+
+#[test]
+fn an_earlier_item_is_judged_first() {
+    let first = [0, 0, 0x62, 7, 0xff, 9];
+    let second = [0, 0, 0x00];
+    assert_eq!(refusal(&[&first[..], &second[..]].concat()), 27);
+    assert_eq!(refusal(&[&second[..], &first[..]].concat()), 24);
+}

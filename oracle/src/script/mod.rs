@@ -1,0 +1,88 @@
+//! Makes call scripts from a seed. The first part walks through every sort of line once, in order;
+//! the rest mixes them until the script is as long as asked for.
+
+mod bad;
+mod damage;
+mod long;
+mod order;
+mod raw;
+mod sheet;
+mod sweep;
+mod valid;
+
+use crate::random::Random;
+use sheet::Sheet;
+
+/// The worked example, written by hand.
+const HEAD: &str = include_str!("head.txt");
+
+pub fn make(seed: u64, lines: usize) -> Vec<u8> {
+    let mut random = Random::new(seed);
+    let mut sheet = Sheet::new();
+    sheet.text(HEAD);
+    sheet.note(&format!("Made from seed {seed}."));
+    valid::every_form(&mut sheet, &mut random);
+    sweep::every_value(&mut sheet, &mut random);
+    damage::every_damage(&mut sheet, &mut random);
+    order::two_causes(&mut sheet, &mut random);
+    bad::every_bad_line(&mut sheet, &mut random);
+    long::long_lines(&mut sheet, &mut random);
+    sheet.note("A mix of all of these.");
+    while sheet.lines() < lines {
+        mixed(&mut sheet, &mut random);
+    }
+    sheet.into_bytes()
+}
+
+fn mixed(sheet: &mut Sheet, random: &mut Random) {
+    match random.below(12) {
+        0..=2 => valid::any_frame(sheet, random),
+        3 => damage::cut(sheet, random),
+        4 => damage::scattered(sheet, random),
+        5 => damage::random_bytes(sheet, random),
+        6..=7 => damage::any_damage(sheet, random),
+        8..=9 => order::any_two(sheet, random),
+        _ => bad::any_line(sheet, random),
+    }
+}
+
+#[cfg(test)]
+mod tests {
+    use super::*;
+    use crate::{count, play, text};
+
+    #[test]
+    fn the_same_seed_makes_the_same_script() {
+        assert_eq!(make(7, 3_000), make(7, 3_000));
+        assert_ne!(make(7, 3_000), make(8, 3_000));
+    }
+
+    #[test]
+    fn a_script_is_as_long_as_asked_for() {
+        assert!(text::lines(&make(3, 9_000)).count() >= 9_000);
+    }
+
+    #[test]
+    fn the_head_answers_without_a_refusal_but_the_wrong_place() {
+        let answers = String::from_utf8(play::answers(HEAD.as_bytes())).unwrap();
+        let refused: Vec<&str> = answers
+            .lines()
+            .filter(|a| !a.starts_with("0 ") && *a != "0")
+            .collect();
+        assert_eq!(refused.len(), 2);
+        assert!(refused[0].starts_with("30 "));
+        assert!(refused[1].starts_with("12 "));
+    }
+
+    #[test]
+    fn every_refusal_occurs_whatever_the_seed() {
+        for seed in 0..5 {
+            let counts = String::from_utf8(count::report(&make(seed, 0))).unwrap();
+            for refusal in 20..=29 {
+                let wanted = format!("read {refusal} ");
+                assert!(counts.contains(&wanted), "{refusal} with seed {seed}");
+            }
+            assert!(counts.contains("step 30 ") && counts.contains("rewrite 12 "));
+        }
+    }
+}
