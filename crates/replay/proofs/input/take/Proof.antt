@@ -1,0 +1,42 @@
+-- `take` is safe and ends: the lent slices keep their lengths, and what is left of the chunk gets shorter. Assumes nothing.
+use borrow.Author.Needs.{needs}
+use lib.ListN.{length}
+use Prim.Native.Nat.{_≤_}
+use mathlib.Core.Path.{_≡_}
+use Rattle.replay.proofs.input.take.Statement.{statement}
+use Rattle.replay.proofs.input.take.Tie as tie
+
+abbrev Inv-loop : tie.InvT-loop
+Inv-loop chunk line₀ frame₀ out₀ place₀ rest₀ at₀ line frame out place rest at = (length line ≡ length line₀) × (length frame ≡ length frame₀) × (length out ≡ length out₀) × (length rest ≤ length chunk)
+
+abbrev μ-loop : tie.MeasureT-loop
+μ-loop chunk line₀ frame₀ out₀ place₀ rest₀ at₀ line frame out place rest at = length rest
+
+pub take-spec : {M : Type 1} → statement M
+take-spec =
+    tie.close
+    (tie.spec
+    Inv-loop
+    μ-loop
+    (λ c. search needs)
+    (λ c κs. search needs)
+    (λ c κs. search needs)
+    (λ c κs. search needs)
+    (λ c κs. search needs)
+    (λ c. search needs)
+    (λ c. search needs)
+    (λ c. search needs)
+    (λ c. search needs)
+    (λ c κs. search needs)
+    (λ c κs. search needs)
+    (λ c. search needs)
+    (λ c. search needs)
+    (λ c. search needs)
+    (λ c. search needs)
+    (λ c. search needs)
+    (λ c. search needs)
+    (λ c κs. search needs)
+    (λ c. search needs)
+    (λ c. search needs)
+    (λ c. search needs)
+    (λ c. search needs))
