@@ -17,15 +17,8 @@ use Rattle.codec.specs.declared.ident.Ident.{Ident}
 use Rattle.codec.specs.declared.ident.Ident.the-variants as Ident
 use Rattle.codec.specs.declared.item.State.{State}
 use Rattle.codec.specs.declared.item.Item.{Item}
+use Rattle.codec.proofs.BoolLaws.{and-l, and-r}
 use Rattle.codec.proofs.NumberLaws.{chain}
-
-pub and-l : (a b : Bool) → a && b ≡ true → a ≡ true
-and-l true b e = refl
-and-l false b e = e
-
-pub and-r : (a b : Bool) → a && b ≡ true → b ≡ true
-and-r true b e = e
-and-r false b e = cc
 
 -- three flags in their places
 pub set-sum : (s i : ℕ) (c : Bool) → s < 2 → i < 2 → bitOr (bitOr (s * 2 ^ 2 % 2 ^ 8) (i * 2 ^ 1 % 2 ^ 8)) (boolByte c) ≡ s * 4 + i * 2 + bit c

@@ -1,3 +1,4 @@
+pub mod BoolLaws
 pub mod TimeLaws
 pub mod NumberLaws
 pub mod ItemLaws

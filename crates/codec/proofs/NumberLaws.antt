@@ -6,7 +6,7 @@ use mathlib.Core.List.{List, [], _∷_, _++_, append-assoc}
 use native.Mathlib.Nat.{add-suc, suc-add, zero-add, add-zero, add-assoc, pow-suc, pow-succ', pow-le-pow-right, div-div-eq-div-mul}
 use native.Mathlib.Numerals.{add-one}
 use native.Mathlib.Omega.{arith}
-use lib.ListN.{length, take, drop, set, getD, length-append, length-set, length-drop}
+use lib.ListN.{length, take, drop, set, getD, length-append, length-set, length-drop, drop-of-length-le}
 use lib.Seq.{sets, sets-eq, drop-cons, paste-zero, take-at, drop-append-add, drop-drop, length-take-le, take-suc, set-at, getD-drop}
 use lib.Dec.{leb}
 use Rattle.codec.specs.Choice.{pick}
@@ -225,3 +225,23 @@ chain-put {l} {at} {xs} {ys} {m} {l'} {k} a w h =
     let n : length m ≡ length l = ap length (a .list) ∙ length-over l at xs (omega arith) in
     let e = a .next in
     chain a (laid-by w refl (omega arith)) (omega arith)
+
+-- a copy: the first i of src stand at index at
+pub record Copying (l : List ℕ) (at : ℕ) (src out : List ℕ) (i : ℕ) : Type 0 where
+  pub most : i ≤ length src
+  pub size : length out ≡ length l
+  pub left : sets l at src ≡ sets out (at + i) (drop i src)
+
+pub copying-first : (l : List ℕ) (at : ℕ) (src : List ℕ) → Copying l at src l 0
+copying-first l at src = record { most = omega arith; size = refl; left = rw add-zero }
+
+pub copying-more : {l : List ℕ} {at : ℕ} {src out : List ℕ} {i : ℕ} → Copying l at src out i → i < length src → Copying l at src (set out (at + i) (getD src i 0)) (i + 1)
+copying-more {l} {at} {src} {out} {i} k h =
+    let p : sets out (at + i) (drop i src) ≡ sets (set out (at + i) (getD src i 0)) (at + (i + 1)) (drop (i + 1) src)
+    = rw (drop-cons src i 0 h, add-one i, add-suc at i) in
+    record { most = omega arith; size = simp length-set (k .size); left = k .left ∙ p }
+
+pub copying-end : {l : List ℕ} {at : ℕ} {src out : List ℕ} {i : ℕ} → Copying l at src out i → length src ≤ i → at + length src ≤ length l → Wrote true l at src out (Put.Next (at + length src))
+copying-end {l} {at} {src} {out} {i} k h f =
+    let p : sets out (at + i) (drop i src) ≡ out = rw (drop-of-length-le src h) in
+    wrote f (sym (k .left ∙ p) ∙ sets-eq src l at f)

@@ -38,7 +38,8 @@ use Rattle.codec.specs.declared.header.Header.{Header}
 use Rattle.codec.specs.declared.header.HeaderRead.{HeaderRead}
 use Rattle.codec.specs.declared.header.HeaderRead.the-variants as HeaderRead
 use Rattle.codec.proofs.NumberLaws.{length-be, has-room}
-use Rattle.codec.proofs.ItemLaws.{and-l, and-r, set-small, ok-set, ok-state, ok-ident, ok-load, ok-short, flexray-in, length-load, encode-length}
+use Rattle.codec.proofs.BoolLaws.{and-l, and-r}
+use Rattle.codec.proofs.ItemLaws.{set-small, ok-set, ok-state, ok-ident, ok-load, ok-short, flexray-in, length-load, encode-length}
 use Rattle.codec.proofs.Stands.{Stands, left, right, part-back, room-back, val-be, bytes-be, bytes-join}
 
 -- where the payload of an item that stands at index at starts

@@ -40,6 +40,7 @@ use Rattle.codec.proofs.time.nanos_of_ticks.Reads as nanos-of-ticks
 use Rattle.codec.proofs.time.millis_of_nanos.Reads as millis-of-nanos
 use Rattle.codec.proofs.time.nanos_of_millis.Reads as nanos-of-millis
 use Rattle.codec.proofs.number.put_be.Reads as put-be
+use Rattle.codec.proofs.number.put_bytes.Reads as put-bytes
 use Rattle.codec.proofs.item.write_item.Reads as write-item
 use Rattle.codec.proofs.header.write_header.Reads as write-header
 use Rattle.codec.proofs.field.part_at.Reads as part-at
@@ -151,6 +152,9 @@ nanos-of-millis-unique κs a r r′ x x′ p q = ap (λ (n : ℕ). record { 0 = 
 
 pub put-be-unique : (κs : _) (a : _) (r r′ : _) (x x′ : _) → put-be.Post κs a r x → put-be.Post κs a r′ x′ → (r ≡ r′) × (now (x .0) ≡ now (x′ .0))
 put-be-unique κs a r r′ x x′ p q = (p .answer ∙ sym (q .answer), p .list ∙ sym (q .list))
+
+pub put-bytes-unique : (κs : _) (a : _) (r r′ : _) (x x′ : _) → put-bytes.Post κs a r x → put-bytes.Post κs a r′ x′ → (r ≡ r′) × (now (x .0) ≡ now (x′ .0))
+put-bytes-unique κs a r r′ x x′ p q = (p .answer ∙ sym (q .answer), p .list ∙ sym (q .list))
 
 pub write-item-unique : (κs : _) (a : _) (r r′ : _) (x x′ : _) → write-item.Post κs a r x → write-item.Post κs a r′ x′ → (r ≡ r′) × (now (x .0) ≡ now (x′ .0))
 write-item-unique κs a r r′ x x′ p q = (p .answer ∙ sym (q .answer), p .list ∙ sym (q .list))

@@ -8,7 +8,7 @@ ghost use mathlib.Core.Path.{_≡_};
 ghost use mathlib.Core.List.{_++_, _∷_, []};
 ghost use Prim.Native.Nat.{_+_, _*_, _/_, _≤_, _<_};
 ghost use lib.ListN.{length};
-ghost use Rattle.codec.specs.Number.{be, over, Wrote, Laid, Sized, Below};
+ghost use Rattle.codec.specs.Number.{be, Wrote, Laid, Sized, Below};
 ghost use Rattle.codec.specs.Ident.{identBytes, identBit, identOk};
 ghost use mathlib.Core.Bool.{true};
 ghost use Rattle.codec.specs.Item.{stateBytes, stateBit, linZero, shownOk, stateOk, setOk, setOf, loadOk, loadBytes, loadLength, flagsOf, encode, itemOk, itemLength};
@@ -160,17 +160,6 @@ fn flags_of(item: Item) -> u8
     set << 5 | kind
 }
 
-fn lay(out: &mut [u8], at: usize, src: &[u8])
-    requires { ⌜ at + length (now src) ≤ length (now out) ⌝ }
-    ensures { λ _. ⌜ now (out .exit) ≡ over (now (out .entry)) at (now (src .entry)) ⌝ }
-{
-    let mut i = 0;
-    while i < src.len() {
-        out[at + i] = src[i];
-        i += 1;
-    }
-}
-
 fn lay_front(out: &mut [u8], at: usize, offset: u16, flags: u8, network: u8) -> usize
     requires { ⌜ at + 4 ≤ length (now out) ⌝ }
     ensures { λ r. ⌜ Laid (now (out .entry)) at (be 2 offset ++ flags ∷ network ∷ []) (now (out .exit)) r ⌝ }
@@ -242,7 +231,7 @@ fn lay_load(out: &mut [u8], at: usize, carries: bool, payload: &[u8]) -> usize
     }
     let n = payload.len();
     out[at] = n as u8;
-    lay(out, at + 1, payload);
+    crate::number::put_bytes(out, at + 1, payload);
     at + 1 + n
 }
 

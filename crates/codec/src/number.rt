@@ -63,6 +63,25 @@ pub fn put_be(out: &mut [u8], at: usize, v: u64, n: usize) -> Put
     Put::Next(at + n)
 }
 
+// Bytes as they are.
+pub fn put_bytes(out: &mut [u8], at: usize, src: &[u8]) -> Put
+    ensures { λ r. ⌜ Wrote true (now (out .entry)) at (now (src .entry)) (now (out .exit)) r ⌝ }
+{
+    let n = src.len();
+    if out.len() < n {
+        return Put::Nothing;
+    }
+    if out.len() - n < at {
+        return Put::Nothing;
+    }
+    let mut i = 0;
+    while i < n {
+        out[at + i] = src[i];
+        i += 1;
+    }
+    Put::Next(at + n)
+}
+
 // The n bytes from index at as a number: one function for every width that fits 64 bits.
 fn word_be(s: &[u8], at: usize, n: usize) -> u64
     requires { ⌜ at + n ≤ length (now s) ⌝ }

@@ -27,6 +27,7 @@ use Rattle.codec.specs.declared.field.ItemRead.the-variants as ItemRead
 use Rattle.codec.proofs.Stands.{Stands, left, right, part-back}
 use Rattle.codec.proofs.Inverse.{read-room, item-forth, header-got, header-forth}
 use Rattle.codec.proofs.RoundTrip.{payloadPlace, item-back, payload-back, header-back}
+use Rattle.codec.proofs.BoolLaws.{or-true, or-false}
 use Rattle.codec.proofs.NumberLaws.{word-is}
 use Rattle.codec.proofs.HeaderLaws.{header-length}
 use Rattle.reader.proofs.AlongLaws.{walk-end, walk-item, walk-bad, items-end, items-item, starts-end, starts-item, starts-here, starts-last}
@@ -135,14 +136,6 @@ unique {s} {h} {k} {es} {fs} f g =
     let b = framed-read g in
     let e : Judged.Frame h ≡ Judged.Frame k = sym (a .0) ∙ b .0 in
     (cc, sym (a .1) ∙ b .1)
-
-or-false : (b : Bool) → b || false ≡ b
-or-false true = refl
-or-false false = refl
-
-or-true : (b : Bool) → b || true ≡ true
-or-true true = refl
-or-true false = refl
 
 -- the place past the last item is among the places
 last-place : (es : List Entry) (at : ℕ) → among (at + length (body es)) (placesOf at es) ≡ true

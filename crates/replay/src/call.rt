@@ -1,67 +1,19 @@
-// One call: its words read, the call made, its answer written.
-use reader::Rewritten;
-use reader::Stepped;
+// One line: its call made on the reader, its answer written.
+use codec::number::Put;
+use script::call::Call;
 use text::bytes::Bytes;
-use text::number::Number;
 ghost use mathlib.Core.Path.{_≡_};
 ghost use lib.ListN.{length};
 
-pub(crate) enum Called {
-    Wrote(usize),
-    Bad,
-}
-
-fn alone(name: &[u8], out: &mut [u8], at: usize) -> Called {
-    if text::line::same(name, b"new") {
-        return Called::Wrote(crate::show::words(out, at, b"0"));
-    }
-    Called::Bad
-}
-
-fn read(name: &[u8], bytes: &[u8], frame: &mut [u8], out: &mut [u8], at: usize) -> Called {
-    if !text::line::same(name, b"read") {
-        return Called::Bad;
-    }
-    let Bytes::Are(n) = text::bytes::read(bytes, frame) else {
-        return Called::Bad;
-    };
-    let judged = reader::judge(text::part::front(frame, n));
-    Called::Wrote(crate::show::judged(out, at, judged))
-}
-
 // A payload line has the number of the step at the same place.
-fn stepped(step: Stepped) -> u8 {
-    match step {
-        Stepped::Item {
-            next: _,
-            time: _,
-            item: _,
-            length: _,
-        } => 0,
-        Stepped::End => 0,
-        Stepped::Refused(why) => codec::refusal::number_of(why),
-    }
+fn payload(out: &mut [u8], at: usize, frame: &[u8], place: usize) -> Put {
+    let answer = reader::stepped_number(reader::step(frame, place));
+    script::answer::with_bytes(out, at, answer, reader::payload(frame, place))
 }
 
-fn payload(frame: &[u8], place: usize, out: &mut [u8], at: usize) -> usize {
-    let code = stepped(reader::step(frame, place));
-    let part = reader::payload(frame, place);
-    let end = crate::show::number(out, at, code as u64);
-    crate::show::bytes(out, end, part)
-}
-
-fn rewritten(r: Rewritten) -> u8 {
-    match r {
-        Rewritten::Done(_) => 0,
-        Rewritten::Small => 12,
-        Rewritten::Refused(why) => codec::refusal::number_of(why),
-    }
-}
-
-fn rewrite_in(frame: &[u8], room: &mut [u8], out: &mut [u8], at: usize) -> usize {
-    let code = rewritten(reader::rewrite(frame, room));
-    let end = crate::show::number(out, at, code as u64);
-    crate::show::bytes(out, end, room)
+fn rewrite_in(out: &mut [u8], at: usize, frame: &[u8], room: &mut [u8]) -> Put {
+    let answer = reader::rewritten_number(reader::rewrite(frame, room));
+    script::answer::with_bytes(out, at, answer, room)
 }
 
 // What a rewrite leaves alone shows as EE. The length is promised for the part that is lent of it.
@@ -71,63 +23,46 @@ fn untouched() -> [u8; 70000]
     [0xEE; 70000]
 }
 
-fn rewrite(frame: &[u8], size: usize, out: &mut [u8], at: usize) -> Called {
+fn rewrite(out: &mut [u8], at: usize, frame: &[u8], size: usize) -> Put {
     if 70000 < size {
-        return Called::Bad;
+        return Put::Nothing;
     }
     let mut room = untouched();
-    Called::Wrote(rewrite_in(frame, &mut room[..size], out, at))
+    rewrite_in(out, at, frame, &mut room[..size])
 }
 
-fn numbered(name: &[u8], k: usize, frame: &[u8], out: &mut [u8], at: usize) -> Called {
-    if text::line::same(name, b"step") {
-        return Called::Wrote(crate::show::step(out, at, reader::step(frame, k)));
+fn made(call: Call, frame: &[u8], out: &mut [u8], at: usize) -> Put {
+    match call {
+        Call::Bad => Put::Nothing,
+        Call::New => text::put::decimal(out, at, 0),
+        Call::Read => script::answer::judged(out, at, reader::judge(frame)),
+        Call::Step(place) => script::answer::stepped(out, at, reader::step(frame, place as usize)),
+        Call::Payload(place) => payload(out, at, frame, place as usize),
+        Call::Rewrite(size) => rewrite(out, at, frame, size as usize),
     }
-    if text::line::same(name, b"payload") {
-        return Called::Wrote(payload(frame, k, out, at));
-    }
-    if text::line::same(name, b"rewrite") {
-        return rewrite(frame, k, out, at);
-    }
-    Called::Bad
 }
 
-fn placed(
-    name: &[u8],
-    number: &[u8],
-    bytes: &[u8],
-    frame: &mut [u8],
-    out: &mut [u8],
-    at: usize,
-) -> Called {
-    let Number::Is(k) = text::number::read(number, u64::MAX) else {
-        return Called::Bad;
+// Which word the bytes of a frame are; a call without them has none there, which reads as bad bytes.
+fn bytes_word(call: Call) -> usize {
+    match call {
+        Call::Bad => 0,
+        Call::New => 0,
+        Call::Read => 1,
+        Call::Step(_) => 2,
+        Call::Payload(_) => 2,
+        Call::Rewrite(_) => 2,
+    }
+}
+
+// Nothing is written where the line is no call.
+pub(crate) fn answer(line: &[u8], frame: &mut [u8], out: &mut [u8], at: usize) -> Put {
+    let call = script::call::parse(line);
+    let k = bytes_word(call);
+    if k == 0 {
+        return made(call, b"", out, at);
+    }
+    let Bytes::Are(n) = text::bytes::read(text::line::word(line, k), frame) else {
+        return Put::Nothing;
     };
-    let Bytes::Are(n) = text::bytes::read(bytes, frame) else {
-        return Called::Bad;
-    };
-    numbered(name, k as usize, text::part::front(frame, n), out, at)
-}
-
-// The count of words is part of a call: a missing or an extra word makes it none.
-pub(crate) fn call(line: &[u8], frame: &mut [u8], out: &mut [u8], at: usize) -> Called {
-    let n = text::line::words(line);
-    let name = text::line::word(line, 0);
-    if n == 1 {
-        return alone(name, out, at);
-    }
-    if n == 2 {
-        return read(name, text::line::word(line, 1), frame, out, at);
-    }
-    if n == 3 {
-        return placed(
-            name,
-            text::line::word(line, 1),
-            text::line::word(line, 2),
-            frame,
-            out,
-            at,
-        );
-    }
-    Called::Bad
+    made(call, text::part::front(frame, n), out, at)
 }

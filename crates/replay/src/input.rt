@@ -1,8 +1,7 @@
 // The script in chunks, cut into lines.
-use crate::call::Called;
+use codec::number::Put;
 use libc::STDIN_FILENO;
 use libc::STDOUT_FILENO;
-use text::put::Put;
 
 // The line being gathered: its number, how much of it is held, and whether it is too long to hold; and
 // whether the input is over.
@@ -28,14 +27,14 @@ fn roomy(out: &[u8], at: usize) -> usize {
 
 // A line that does not fit is judged by its length alone, so its rest is not held.
 fn gather(line: &mut [u8], part: &[u8], place: Place) -> Place {
-    match text::put::copy(line, place.held, part) {
+    match codec::number::put_bytes(line, place.held, part) {
         Put::Next(held) => Place {
             number: place.number,
             held,
             long: place.long,
             over: place.over,
         },
-        Put::Full => Place {
+        Put::Nothing => Place {
             number: place.number,
             held: place.held,
             long: true,
@@ -58,10 +57,17 @@ fn next(place: Place) -> Place {
     }
 }
 
+// Where writing goes on.
+fn past(put: Put, at: usize) -> usize {
+    match put {
+        Put::Next(end) => end,
+        Put::Nothing => at,
+    }
+}
+
 fn bad(out: &mut [u8], at: usize, number: u64) -> usize {
-    let mark = crate::show::words(out, at, b"?");
-    let end = crate::show::field(out, mark, number);
-    crate::show::words(out, end, b"\n")
+    let end = past(script::answer::bad(out, at, number), at);
+    past(codec::number::put_bytes(out, end, b"\n"), end)
 }
 
 fn answer(line: &[u8], frame: &mut [u8], out: &mut [u8], at: usize, number: u64) -> usize {
@@ -69,9 +75,9 @@ fn answer(line: &[u8], frame: &mut [u8], out: &mut [u8], at: usize, number: u64)
     if kept.len() == 0 {
         return at;
     }
-    match crate::call::call(kept, frame, out, at) {
-        Called::Wrote(end) => crate::show::words(out, end, b"\n"),
-        Called::Bad => bad(out, at, number),
+    match crate::call::answer(kept, frame, out, at) {
+        Put::Next(end) => past(codec::number::put_bytes(out, end, b"\n"), end),
+        Put::Nothing => bad(out, at, number),
     }
 }
 

@@ -9,9 +9,9 @@ use lib.ListN.{length, getD, drop, set, length-set, length-drop, drop-of-length-
 use lib.Seq.{drop-cons, sets, sets-eq}
 use lib.Dec.{leb, ltb, eqb}
 use borrow.Author.Tests.{le-leb, lt-leb, lt-ltb, le-ltb, ltb-true, eq-eqb, ne-eqb}
-use Rattle.text.proofs.BoolLaws.{and-false, and-l, and-r}
+use Rattle.codec.proofs.BoolLaws.{and-false, and-l, and-r}
 use Rattle.text.specs.Digit.{digitOf, allBelow}
-use Rattle.text.specs.Put.{over}
+use Rattle.codec.specs.Number.{over}
 use Rattle.text.specs.Line.{sameOf}
 use Rattle.text.specs.Bytes.{pairs, spells, Filled}
 use Rattle.text.specs.declared.bytes.Bytes.{Bytes}

@@ -2,7 +2,8 @@
 use Prim.Native.Nat.{ℕ, _-_, _≤_, _<_}
 use native.Mathlib.Omega.{arith}
 use borrow.Author.Tests.{le-leb, lt-leb, lt-ltb, le-ltb}
-use Rattle.text.specs.Digit.{digitOf, Below}
+use Rattle.codec.specs.Number.{Below}
+use Rattle.text.specs.Digit.{digitOf}
 
 pub before-0 : (c : ℕ) → c < 48 → Below (digitOf c) 17 16
 unfolding digitOf

@@ -1,4 +1,3 @@
-pub mod BoolLaws
 pub mod DigitLaws
 pub mod LineLaws
 pub mod NumberLaws

@@ -10,8 +10,8 @@ use lib.ListN.{length, getD, take, drop, length-drop, drop-of-length-le}
 use lib.Seq.{drop-cons, take-suc, take-length, take-all}
 use lib.Dec.{eqb}
 use borrow.Author.Tests.{eq-eqb, ne-eqb}
-use Rattle.text.specs.Choice.{pick}
-use Rattle.text.proofs.BoolLaws.{and-false}
+use Rattle.codec.specs.Choice.{pick}
+use Rattle.codec.proofs.BoolLaws.{and-false}
 use Rattle.text.specs.Line.{ahead, Found, grow, trimmed, before, split, wordsOf, wordOf, sameOf}
 
 -- find: b is not among the first i

@@ -10,7 +10,7 @@ use lib.ListN.{length, getD, take, drop, length-drop, drop-of-length-le}
 use lib.Seq.{drop-cons, take-all}
 use lib.Dec.{leb}
 use borrow.Author.Tests.{le-leb, lt-leb, leb-true, leb-false, lt-ltb, le-ltb, eq-eqb, ne-eqb}
-use Rattle.text.proofs.BoolLaws.{and-false}
+use Rattle.codec.proofs.BoolLaws.{and-false}
 use Rattle.text.specs.Digit.{digitOf, allBelow}
 use Rattle.text.specs.Number.{value, grownOf, restOf, digitsOf, hexed, numberOf}
 use Rattle.text.specs.declared.number.Number.{Number}

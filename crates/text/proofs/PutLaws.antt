@@ -1,51 +1,21 @@
 -- Laws of text written over a list: what each loop keeps, and what it has shown at its end. Assumes nothing.
-use Prim.Native.Nat.{ℕ, suc, _+_, _-_, _*_, _/_, _%_, _≤_, _<_}
+use Prim.Native.Nat.{ℕ, zero, suc, _+_, _-_, _*_, _/_, _%_, _≤_, _<_}
 use mathlib.Core.Path.{_≡_, refl, sym, _∙_, ap}
-use mathlib.Core.Bool.{true, false}
+use mathlib.Core.Bool.{Bool, true, false}
 use mathlib.Core.List.{List, [], _∷_, _++_, append-assoc, append-nil}
 use native.Mathlib.Nat.{add-zero, add-suc}
 use native.Mathlib.Numerals.{add-one, add-two}
 use native.Mathlib.Omega.{arith}
-use lib.ListN.{length, getD, take, drop, set, length-set, length-drop, drop-of-length-le}
+use Rattle.codec.specs.Choice.{pick}
+use lib.ListN.{length, length-append, getD, take, drop, set, length-set, length-drop, drop-of-length-le}
 use lib.Seq.{drop-cons, take-all, sets, sets-eq, drop-set-lt, getD-set-same}
-use lib.Dec.{leb}
+use lib.Dec.{ltb}
+use Rattle.codec.proofs.NumberLaws.{full, wrote}
 use borrow.Author.Tests.{le-leb, lt-leb, lt-ltb, le-ltb}
-use Rattle.text.specs.Put.{over, fits, Wrote, letterOf, hexes, hexOf, decimals, decimalOf, Ends}
-use Rattle.text.specs.declared.put.Put.{Put}
-use Rattle.text.specs.declared.put.Put.the-variants as Put
-
--- the two answers
-pub full : {l : List ℕ} {at : ℕ} {bs : List ℕ} → length l < at + length bs → Wrote l at bs l Put.Full
-unfolding fits
-full {l} {at} {bs} h =
-    let e : leb (at + length bs) (length l) ≡ false = lt-leb (at + length bs) (length l) h in
-    record { list = rw e; answer = rw e }
-
-pub wrote : {l l' : List ℕ} {at : ℕ} {bs : List ℕ} {r : ℕ} → at + length bs ≤ length l → l' ≡ over l at bs → r ≡ at + length bs → Wrote l at bs l' (Put.Next r)
-unfolding fits
-wrote {l} {l'} {at} {bs} {r} h g k =
-    let e : leb (at + length bs) (length l) ≡ true = le-leb (at + length bs) (length l) h in
-    record { list = rw e g; answer = rw (e, k) }
-
--- copy: the first i of src stand at index at
-pub record Copying (l : List ℕ) (at : ℕ) (src out : List ℕ) (i : ℕ) : Type 0 where
-  pub most : i ≤ length src
-  pub size : length out ≡ length l
-  pub left : sets l at src ≡ sets out (at + i) (drop i src)
-
-pub copying-first : (l : List ℕ) (at : ℕ) (src : List ℕ) → Copying l at src l 0
-copying-first l at src = record { most = omega arith; size = refl; left = rw add-zero }
-
-pub copying-more : {l : List ℕ} {at : ℕ} {src out : List ℕ} {i : ℕ} → Copying l at src out i → i < length src → Copying l at src (set out (at + i) (getD src i 0)) (i + 1)
-copying-more {l} {at} {src} {out} {i} k h =
-    let p : sets out (at + i) (drop i src) ≡ sets (set out (at + i) (getD src i 0)) (at + (i + 1)) (drop (i + 1) src)
-    = rw (drop-cons src i 0 h, add-one i, add-suc at i) in
-    record { most = omega arith; size = simp length-set (k .size); left = k .left ∙ p }
-
-pub copying-end : {l : List ℕ} {at : ℕ} {src out : List ℕ} {i : ℕ} → Copying l at src out i → length src ≤ i → at + length src ≤ length l → Wrote l at src out (Put.Next (at + length src))
-copying-end {l} {at} {src} {out} {i} k h f =
-    let p : sets out (at + i) (drop i src) ≡ out = rw (drop-of-length-le src h) in
-    wrote f (sym (k .left ∙ p) ∙ sets-eq src l at f) refl
+use Rattle.codec.specs.Number.{over, fits, Wrote}
+use Rattle.text.specs.Put.{letterOf, hexes, hexOf, decimals, decimalOf, Ends}
+use Rattle.codec.specs.declared.number.Put.{Put}
+use Rattle.codec.specs.declared.number.Put.the-variants as Put
 
 -- hex: the digits of the first i of src stand at index at, up to index k
 pub record Hexing (l : List ℕ) (at : ℕ) (src out : List ℕ) (i k : ℕ) : Type 0 where
@@ -82,13 +52,13 @@ pub hex-none : (bs : List ℕ) → length bs ≡ 0 → hexOf bs ≡ 45 ∷ []
 hex-none [] e = refl
 hex-none (b ∷ bs) e = absurd (omega arith)
 
-pub hex-full : {l : List ℕ} {at : ℕ} (bs : List ℕ) → (length bs ≡ 0 → ⊥) → length l < at + 2 * length bs → Wrote l at (hexOf bs) l Put.Full
+pub hex-full : {l : List ℕ} {at : ℕ} (bs : List ℕ) → (length bs ≡ 0 → ⊥) → length l < at + 2 * length bs → Wrote true l at (hexOf bs) l Put.Nothing
 hex-full {l} {at} bs p h = rw (hex-some bs p) (full (omega (arith, hexes-length bs)))
 
-pub hex-wrote : {l : List ℕ} {at : ℕ} {l' : List ℕ} (bs : List ℕ) → (length bs ≡ 0 → ⊥) → at + 2 * length bs ≤ length l → l' ≡ over l at (hexes bs) → Wrote l at (hexOf bs) l' (Put.Next (at + 2 * length bs))
+pub hex-wrote : {l : List ℕ} {at : ℕ} {l' : List ℕ} (bs : List ℕ) → (length bs ≡ 0 → ⊥) → at + 2 * length bs ≤ length l → l' ≡ over l at (hexes bs) → Wrote true l at (hexOf bs) l' (Put.Next (at + 2 * length bs))
 hex-wrote {l} {at} {l'} bs p h e =
     let n = hexes-length bs in
-    rw (hex-some bs p) (wrote (omega arith) e (omega arith))
+    rw (hex-some bs p, ← n) (wrote (omega arith) e)
 
 -- decimal: what is left of v is x, for which i places are left
 pub record Spelling (v : ℕ) (text : List ℕ) (x i : ℕ) : Type 0 where
@@ -141,3 +111,17 @@ spelling-end {v} {text} {x} {i} s h =
 
 pub ends-part : {l bs : List ℕ} {r : ℕ} → Ends l bs r → length l ≡ 20 → take (20 - r) (drop r l) ≡ bs
 ends-part {l} {bs} {r} e n = take-all (20 - r) (drop r l) (omega (arith, length-drop r l)) ∙ e .tail
+
+-- a number has as many digits as it was given places, at most
+pub decimals-length : (n v : ℕ) → length (decimals n v) ≤ n
+unfolding decimals
+decimals-length zero v = omega arith
+decimals-length (suc n) v = go (decimals-length n (v / 10)) (ltb v 10)
+  where
+    go : length (decimals n (v / 10)) ≤ n → (t : Bool) → length (pick t ((v + 48) ∷ []) (decimals n (v / 10) ++ ((v % 10 + 48) ∷ []))) ≤ suc n
+    go h true = omega arith
+    go h false = simp length-append (omega arith)
+
+pub decimal-length : (v : ℕ) → length (decimalOf v) ≤ 20
+unfolding decimalOf
+decimal-length v = decimals-length 20 v

@@ -8,6 +8,7 @@ use native.Mathlib.Nat.{pow-suc}
 use lib.ListN.{length, length-append}
 use lib.Dec.{ltb, leb, eqb}
 use borrow.Author.Tests.{lt-ltb, le-leb, ltb-true, ltb-false, eq-eqb, ne-eqb}
+use Rattle.codec.specs.Number.{Bytes}
 use Rattle.text.specs.Digit.{digitOf, allBelow}
 use Rattle.text.specs.Number.{value, restOf, digitsOf, hexed, numberOf}
 use Rattle.text.specs.Put.{letterOf, hexes, hexOf, decimals, decimalOf}
@@ -15,14 +16,9 @@ use Rattle.text.specs.Line.{sameOf}
 use Rattle.text.specs.Bytes.{pairs, spells}
 use Rattle.text.specs.declared.number.Number.{Number}
 use Rattle.text.specs.declared.number.Number.the-variants as Number
-use Rattle.text.proofs.BoolLaws.{and-false, and-l, and-r}
+use Rattle.codec.proofs.BoolLaws.{and-false, and-l, and-r}
 use Rattle.text.proofs.DigitLaws.{from-0, from-a, after-f}
 use Rattle.text.proofs.PutLaws.{hexes-length}
-
--- a list of bytes
-abbrev pub AreBytes : List ℕ → Type 0
-AreBytes [] = Unit {0}
-AreBytes (b ∷ bs) = (b < 256) × AreBytes bs
 
 -- a digit that was written is worth what it was written for
 letter-back : (d : ℕ) → d < 16 → digitOf (letterOf d) ≡ d
@@ -37,14 +33,14 @@ letter-back d h = go (ltb d 10) refl
         let k : 10 ≤ d = ltb-false d 10 e in
         rw e (sym (from-a (d + 87) (omega arith) (omega arith) .is) ∙ omega arith)
 
-pub pairs-back : (bs : List ℕ) → AreBytes bs → pairs (hexes bs) ≡ bs
+pub pairs-back : (bs : List ℕ) → Bytes bs → pairs (hexes bs) ≡ bs
 pairs-back [] h = refl
 pairs-back (b ∷ bs) h =
     let k : b < 256 = h .0 in
     let e : b / 16 * 16 + b % 16 ≡ b = omega arith in
     rw (letter-back (b / 16) (omega arith), letter-back (b % 16) (omega arith), e, pairs-back bs (h .1))
 
-hexes-digits : (bs : List ℕ) → AreBytes bs → allBelow 16 (hexes bs) ≡ true
+hexes-digits : (bs : List ℕ) → Bytes bs → allBelow 16 (hexes bs) ≡ true
 hexes-digits [] h = refl
 hexes-digits (b ∷ bs) h =
     let k : b < 256 = h .0 in
@@ -52,7 +48,7 @@ hexes-digits (b ∷ bs) h =
     (hexes-digits bs (h .1))
 
 -- hexadecimal text is bytes, and those that were written
-pub hex-back : (bs : List ℕ) → AreBytes bs → (spells (hexOf bs) ≡ true) × (pairs (hexOf bs) ≡ bs)
+pub hex-back : (bs : List ℕ) → Bytes bs → (spells (hexOf bs) ≡ true) × (pairs (hexOf bs) ≡ bs)
 unfolding spells
 hex-back [] h = (refl, refl)
 hex-back (b ∷ bs) h = (go (sameOf (hexes (b ∷ bs)) (45 ∷ [])), pairs-back (b ∷ bs) h)

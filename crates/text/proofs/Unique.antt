@@ -11,7 +11,6 @@ use Rattle.text.proofs.line.words.Reads as words
 use Rattle.text.proofs.line.word.Reads as word
 use Rattle.text.proofs.line.same.Reads as same
 use Rattle.text.proofs.part.front.Reads as front
-use Rattle.text.proofs.put.copy.Reads as copy
 use Rattle.text.proofs.put.hex.Reads as hex
 use Rattle.text.proofs.put.decimal.Reads as decimal
 
@@ -42,10 +41,6 @@ same-unique κs a r r′ x x′ p q = p ∙ sym q
 
 pub front-unique : (κs : _) (a : _) (r r′ : _) (x x′ : _) → front.Post κs a r x → front.Post κs a r′ x′ → now r ≡ now r′
 front-unique κs a r r′ x x′ p q = p ∙ sym q
-
-pub copy-unique : (κs : _) (a : _) (r r′ : _) (x x′ : _) → copy.Post κs a r x → copy.Post κs a r′ x′
-    → (r ≡ r′) × (now (x .0) ≡ now (x′ .0))
-copy-unique κs a r r′ x x′ p q = (p .answer ∙ sym (q .answer), p .list ∙ sym (q .list))
 
 pub hex-unique : (κs : _) (a : _) (r r′ : _) (x x′ : _) → hex.Post κs a r x → hex.Post κs a r′ x′ → (r ≡ r′) × (now (x .0) ≡ now (x′ .0))
 hex-unique κs a r r′ x x′ p q = (p .answer ∙ sym (q .answer), p .list ∙ sym (q .list))

@@ -5,9 +5,9 @@ use mathlib.Core.Bool.{Bool, _&&_, _||_}
 use mathlib.Core.List.{List, [], _∷_}
 use lib.ListN.{length}
 use lib.Dec.{ltb, leb, eqb}
-use Rattle.text.specs.Choice.{pick}
+use Rattle.codec.specs.Choice.{pick}
 use Rattle.text.specs.Digit.{digitOf, allBelow}
-use Rattle.text.specs.Put.{over}
+use Rattle.codec.specs.Number.{over}
 use Rattle.text.specs.Line.{sameOf}
 use Rattle.text.specs.declared.bytes.Bytes.{Bytes}
 use Rattle.text.specs.declared.bytes.Bytes.the-variants as Bytes

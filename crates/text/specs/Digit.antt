@@ -4,7 +4,7 @@ use mathlib.Core.Path.{_≡_}
 use mathlib.Core.Bool.{Bool, true, _&&_}
 use mathlib.Core.List.{List, [], _∷_}
 use lib.Dec.{ltb, leb}
-use Rattle.text.specs.Choice.{pick}
+use Rattle.codec.specs.Choice.{pick}
 
 -- '0' to '9', 'A' to 'F' and 'a' to 'f' are worth 0 to 15; any other byte is worth 16
 unfoldable pub digitOf : ℕ → ℕ
@@ -15,11 +15,6 @@ digitOf c =
     (pick (leb c 70) (c - 55)
     (pick (ltb c 97) 16
     (pick (leb c 102) (c - 87) 16)))))
-
--- the number x, below k
-pub record Below (x k r : ℕ) : Type 0 where
-  pub is : r ≡ x
-  pub below : r < k
 
 -- every byte is a digit of this base
 abbrev pub allBelow : ℕ → List ℕ → Bool

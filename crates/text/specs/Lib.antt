@@ -1,4 +1,3 @@
-pub mod Choice
 pub mod Digit
 pub mod Number
 pub mod Put

@@ -5,7 +5,7 @@ use mathlib.Core.Bool.{Bool, true, false, _&&_}
 use mathlib.Core.List.{List, [], _∷_}
 use lib.ListN.{length, getD, take}
 use lib.Dec.{eqb}
-use Rattle.text.specs.Choice.{pick}
+use Rattle.codec.specs.Choice.{pick}
 
 -- how many elements stand before the first b
 abbrev pub ahead : ℕ → List ℕ → ℕ

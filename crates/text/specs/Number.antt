@@ -4,7 +4,7 @@ use mathlib.Core.Bool.{Bool, _&&_}
 use mathlib.Core.List.{List, [], _∷_}
 use lib.ListN.{length, getD, drop}
 use lib.Dec.{leb, eqb}
-use Rattle.text.specs.Choice.{pick}
+use Rattle.codec.specs.Choice.{pick}
 use Rattle.text.specs.Digit.{digitOf, allBelow}
 use Rattle.text.specs.declared.number.Number.{Number}
 use Rattle.text.specs.declared.number.Number.the-variants as Number

@@ -1,26 +1,11 @@
--- Text, and text written over a list at an index.
+-- Numbers and bytes as text.
 use Prim.Native.Nat.{ℕ, zero, suc, _+_, _/_, _%_, _≤_}
 use mathlib.Core.Path.{_≡_}
 use mathlib.Core.Bool.{Bool}
 use mathlib.Core.List.{List, [], _∷_, _++_}
 use lib.ListN.{length, take, drop}
 use lib.Dec.{ltb, leb}
-use Rattle.text.specs.Choice.{pick}
-use Rattle.text.specs.declared.put.Put.{Put}
-use Rattle.text.specs.declared.put.Put.the-variants as Put
-
--- l with bs over it from index at: what stood before, bs, what stood after
-abbrev pub over : List ℕ → ℕ → List ℕ → List ℕ
-over l at bs = take at l ++ bs ++ drop (at + length bs) l
-
--- n bytes at index at stand within l
-unfoldable pub fits : List ℕ → ℕ → ℕ → Bool
-fits l at n = leb (at + n) (length l)
-
--- where there is room, bs stand at index at and the answer is the index past them; else nothing changed
-pub record Wrote (l : List ℕ) (at : ℕ) (bs : List ℕ) (l' : List ℕ) (r : Put) : Type 0 where
-  pub list : l' ≡ pick (fits l at (length bs)) (over l at bs) l
-  pub answer : r ≡ pick (fits l at (length bs)) (Put.Next (at + length bs)) Put.Full
+use Rattle.codec.specs.Choice.{pick}
 
 -- '0' to '9' and 'a' to 'f'
 unfoldable pub letterOf : ℕ → ℕ

@@ -4,7 +4,7 @@ ghost use mathlib.Core.Bool.{true};
 ghost use Prim.Native.Nat.{_*_, _≤_};
 ghost use lib.ListN.{length};
 ghost use Rattle.text.specs.Digit.{allBelow};
-ghost use Rattle.text.specs.Put.{over};
+ghost use Rattle.codec.specs.Number.{over};
 ghost use Rattle.text.specs.Bytes.{pairs, spells, Filled};
 
 pub enum Bytes {

@@ -1,5 +1,6 @@
 // What a digit is worth.
-ghost use Rattle.text.specs.Digit.{digitOf, Below};
+ghost use Rattle.codec.specs.Number.{Below};
+ghost use Rattle.text.specs.Digit.{digitOf};
 
 // One answer for every byte: what is no digit is worth 16, which no base that is read reaches.
 pub fn value(c: u8) -> u64

@@ -1,32 +1,11 @@
 // Text written over a slice at an index.
+use codec::number::Put;
 ghost use mathlib.Core.Path.{_≡_};
 ghost use Prim.Native.Nat.{_+_, _*_, _<_, _≤_};
 ghost use lib.ListN.{length};
-ghost use Rattle.text.specs.Put.{over, letterOf, hexes, hexOf, decimalOf, Wrote, Ends};
-
-// The index past what was written, or nothing was written for want of room.
-pub enum Put {
-    Next(usize),
-    Full,
-}
-
-pub fn copy(out: &mut [u8], at: usize, src: &[u8]) -> Put
-    ensures { λ r. ⌜ Wrote (now (out .entry)) at (now (src .entry)) (now (out .exit)) r ⌝ }
-{
-    let n = src.len();
-    if out.len() < n {
-        return Put::Full;
-    }
-    if out.len() - n < at {
-        return Put::Full;
-    }
-    let mut i = 0;
-    while i < n {
-        out[at + i] = src[i];
-        i += 1;
-    }
-    Put::Next(at + n)
-}
+ghost use mathlib.Core.Bool.{true};
+ghost use Rattle.codec.specs.Number.{over, Wrote};
+ghost use Rattle.text.specs.Put.{letterOf, hexes, hexOf, decimalOf, Ends};
 
 fn letter(v: u8) -> u8
     requires { ⌜ v < 16 ⌝ }
@@ -52,17 +31,17 @@ fn lay_hex(out: &mut [u8], at: usize, src: &[u8])
 
 // Two lower-case digits for each byte, and `-` for no bytes.
 pub fn hex(out: &mut [u8], at: usize, src: &[u8]) -> Put
-    ensures { λ r. ⌜ Wrote (now (out .entry)) at (hexOf (now (src .entry))) (now (out .exit)) r ⌝ }
+    ensures { λ r. ⌜ Wrote true (now (out .entry)) at (hexOf (now (src .entry))) (now (out .exit)) r ⌝ }
 {
     if src.len() == 0 {
-        return copy(out, at, b"-");
+        return codec::number::put_bytes(out, at, b"-");
     }
     let size = 2 * src.len();
     if out.len() < size {
-        return Put::Full;
+        return Put::Nothing;
     }
     if out.len() - size < at {
-        return Put::Full;
+        return Put::Nothing;
     }
     lay_hex(out, at, src);
     Put::Next(at + size)
@@ -87,9 +66,9 @@ fn spell(text: &mut [u8], v: u64) -> usize
 }
 
 pub fn decimal(out: &mut [u8], at: usize, v: u64) -> Put
-    ensures { λ r. ⌜ Wrote (now (out .entry)) at (decimalOf v) (now (out .exit)) r ⌝ }
+    ensures { λ r. ⌜ Wrote true (now (out .entry)) at (decimalOf v) (now (out .exit)) r ⌝ }
 {
     let mut text = [0u8; 20];
     let i = spell(&mut text, v);
-    copy(out, at, &text[i..])
+    codec::number::put_bytes(out, at, &text[i..])
 }

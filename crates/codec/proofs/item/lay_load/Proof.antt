@@ -5,7 +5,7 @@ use denote.Ref.{now}
 use lib.ListN.{length, length-set}
 use borrow.Author.Tests.{not-true, not-false}
 use Rattle.codec.specs.Item.{loadBytes}
-use Rattle.codec.proofs.NumberLaws.{laid, laid-none, chain}
+use Rattle.codec.proofs.NumberLaws.{laid, laid-none, laid-by, chain}
 use borrow.Author.Needs.{needs}
 use native.Mathlib.Omega.{arith}
 use Rattle.codec.proofs.item.lay_load.Statement.{statement}
@@ -19,10 +19,10 @@ lay-load-spec =
     (λ c. search needs)
     (λ c. omega (arith, ap (λ (b : Bool). length (loadBytes b (now (c .before .before .before .args .payload)))) (not-false (c .before .before .before .args .carries) (c .if1 .left))))
     (λ c. search needs)
-    (λ c κs. simp length-set (omega (arith, ap (λ (b : Bool). length (loadBytes b (now (c .before .before .before .before .args .payload)))) (not-false (c .before .before .before .before .args .carries) (c .before .if1 .left)))))
+    (λ c κs. search needs)
     (λ c. search needs)
     (λ c. search needs)
-    (λ c. c .before .before .lay .kept .0 ∙ simp length-set)
+    (λ c. c .before .before .put-bytes .kept .0 ∙ simp length-set)
     (λ c.
     let e = ap (λ (b : Bool). length (loadBytes b (now (c .before .before .before .before .before .before .before .args .payload)))) (not-false (c .before .before .before .before .before .before .before .args .carries) (c .before .before .before .before .if1 .left)) in
-    rw (not-false (c .before .before .before .before .before .before .before .args .carries) (c .before .before .before .before .if1 .left)) (chain (laid _ [] refl (omega arith)) (record { list = c .before .before .lay .ensures; next = refl }) (omega arith))))
+    rw (not-false (c .before .before .before .before .before .before .before .args .carries) (c .before .before .before .before .if1 .left)) (chain (laid _ [] refl (omega arith)) (laid-by (c .before .before .put-bytes .ensures) refl (simp length-set (omega arith))) (omega arith))))

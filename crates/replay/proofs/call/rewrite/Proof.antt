@@ -1,8 +1,7 @@
--- `rewrite` is safe: the part of the output that is lent has as many bytes as were asked for. Assumes nothing.
-use native.Mathlib.Omega.{arith}
-use lib.Seq.{length-take-le}
 use mathlib.Core.Path.{sym}
+use lib.Seq.{length-take-le}
 use borrow.Author.Needs.{needs}
+use native.Mathlib.Omega.{arith}
 use Rattle.replay.proofs.call.rewrite.Statement.{statement}
 use Rattle.replay.proofs.call.rewrite.Tie as tie
 
@@ -13,7 +12,7 @@ rewrite-spec =
     (λ c. search needs)
     (λ c κs. search needs)
     (λ c. search needs)
-    (λ c. sym (length-take-le _ (c .before .untouched .result) (omega arith)))
+    (λ c. sym (length-take-le _ _ (omega arith)))
     (λ c κs. search needs)
     (λ c. search needs)
     (λ c. search needs))

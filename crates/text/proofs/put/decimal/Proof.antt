@@ -14,4 +14,4 @@ decimal-spec =
     (λ c. search needs)
     (λ c κs. search needs)
     (λ c. search needs)
-    (λ c. rw (← ends-part (c .before .before .before .before .before .before .before .spell .ensures) (c .before .before .before .before .before .before .before .spell .kept .0)) (c .before .before .copy .ensures)))
+    (λ c. rw (← ends-part (c .before .before .before .before .before .before .before .spell .ensures) (c .before .before .before .before .before .before .before .spell .kept .0)) (c .before .before .put-bytes .ensures)))

@@ -11,7 +11,7 @@ hex-spec =
     (λ c. search needs)
     (λ c κs. search needs)
     (λ c. search needs)
-    (λ c. rw (hex-none (c .before .before .before .before .before .before .before .before .args .src .now) (c .before .before .before .before .before .if1 .taken)) (c .before .before .copy .ensures))
+    (λ c. rw (hex-none (c .before .before .before .before .before .before .before .before .args .src .now) (c .before .before .before .before .before .if1 .taken)) (c .before .before .put-bytes .ensures))
     (λ c. search needs)
     (λ c. hex-full (c .before .before .before .before .args .src .now) (c .before .if1 .left) (omega arith))
     (λ c. search needs)

@@ -1,10 +1,10 @@
-use borrow.Author.Needs.{needs}
-use native.Mathlib.Omega.{arith}
 use lib.ListN.{length}
 use Prim.Native.Nat.{_-_}
-use Rattle.text.proofs.PutLaws.{full, Copying, copying-first, copying-more, copying-end}
-use Rattle.text.proofs.put.copy.Statement.{statement}
-use Rattle.text.proofs.put.copy.Tie as tie
+use Rattle.codec.proofs.NumberLaws.{full, Copying, copying-first, copying-more, copying-end}
+use borrow.Author.Needs.{needs}
+use native.Mathlib.Omega.{arith}
+use Rattle.codec.proofs.number.put_bytes.Statement.{statement}
+use Rattle.codec.proofs.number.put_bytes.Tie as tie
 
 abbrev Inv-loop : tie.InvT-loop
 Inv-loop out₀ at src n i₀ out i = Copying out₀ at src out i
@@ -12,8 +12,8 @@ Inv-loop out₀ at src n i₀ out i = Copying out₀ at src out i
 abbrev μ-loop : tie.MeasureT-loop
 μ-loop out₀ at src n i₀ out i = length src - i
 
-pub copy-spec : {M : Type 1} → statement M
-copy-spec =
+pub put-bytes-spec : {M : Type 1} → statement M
+put-bytes-spec =
     tie.close
     (tie.spec
     Inv-loop

@@ -1,0 +1,109 @@
+-- Short texts laid one after the other. Assumes nothing.
+use Prim.Native.Nat.{ℕ, suc, _+_, _*_, _≤_, _<_}
+use mathlib.Core.Path.{_≡_, refl, sym, _∙_, ap}
+use mathlib.Core.Bool.{Bool, true, false}
+use mathlib.Core.List.{List, [], _∷_, _++_}
+use native.Mathlib.Omega.{arith}
+use native.Mathlib.Nat.{zero-add}
+use lib.ListN.{length, take, drop, length-append}
+use lib.Seq.{take-at}
+use lib.Dec.{eqb}
+use Rattle.codec.specs.Number.{over, Laid, Wrote}
+use Rattle.codec.specs.declared.number.Put.{Put}
+use Rattle.codec.specs.declared.number.Put.the-variants as Put
+use Rattle.codec.proofs.NumberLaws.{hit, kept, chain, chain-put, from-laid, length-over}
+use borrow.Author.Tests.{ne-eqb, eqb-true}
+use Rattle.text.specs.Put.{decimalOf, hexOf}
+use Rattle.text.proofs.PutLaws.{hexes-length}
+use Rattle.script.specs.Answer.{Short, hexSize, bytesText}
+
+-- a write that had room
+pub short-put : {l : List ℕ} {at : ℕ} {bs l' : List ℕ} {p : Put} (k : ℕ) → Wrote true l at bs l' p → at + length bs ≤ length l → length bs ≤ k
+    → Short k l at bs l' (at + length bs)
+short-put {l} {at} {bs} {l'} k w h m =
+    let e : l' ≡ over l at bs = kept w h in
+    record { laid = record { list = e; next = refl }; most = omega arith; fits = h; kept = ap length e ∙ length-over l at bs h }
+
+next-is : {l : List ℕ} {at : ℕ} {bs l' : List ℕ} {p : Put} → Wrote true l at bs l' p → at + length bs ≤ length l → p ≡ Put.Next (at + length bs)
+next-is w h = w .answer ∙ sym (hit _ _ _ _ _ h refl)
+
+-- a text of at most k characters always finds k places
+module _ {l : List ℕ} {at : ℕ} {bs l' : List ℕ} {p : Put} (k : ℕ) (w : Wrote true l at bs l' p) (m : length bs ≤ k) (h : at + k ≤ length l) where
+  room : at + length bs ≤ length l
+  room = omega arith
+
+  pub put-next : {n : ℕ} → p ≡ Put.Next n → Short k l at bs l' n
+  put-next {n} e =
+      let q : Put.Next (at + length bs) ≡ Put.Next n = sym (next-is w room) ∙ e in
+      let z : at + length bs ≡ n = cc in
+      rw (← z) (short-put k w room m)
+
+  pub put-nothing : p ≡ Put.Nothing → ⊥
+  put-nothing e =
+      let q : Put.Next (at + length bs) ≡ Put.Nothing = sym (next-is w room) ∙ e in
+      let z : _≡_ {A = ℕ} 0 1 = cc in
+      omega arith
+
+-- one after the other
+pub short-then : {j n : ℕ} {l : List ℕ} {at : ℕ} {xs ys m l' : List ℕ} {k r : ℕ} → Short j l at xs m k → Short n m k ys l' r → Short (j + n) l at (xs ++ ys) l' r
+short-then {j} {n} {l} {at} {xs} {ys} a b =
+    let p = a .laid .next in
+    let q = a .kept in
+    let f = b .fits in
+    let u = a .most in
+    let v = b .most in
+    record {
+      laid = chain (a .laid) (b .laid) (a .fits);
+      most = omega arith;
+      fits = rw (length-append xs ys) (omega arith);
+      kept = b .kept ∙ q;
+    }
+
+-- the same text under another name, and a wider bound
+pub short-as : {j k : ℕ} {l : List ℕ} {at : ℕ} {bs cs l' : List ℕ} {r : ℕ} → Short j l at bs l' r → bs ≡ cs → j ≤ k → Short k l at cs l' r
+short-as {j} {k} {l} {at} {bs} {cs} {l'} {r} a e h =
+    let b : Short j l at cs l' r = rw e at a in
+    let m = b .most in
+    record { laid = b .laid; most = omega arith; fits = b .fits; kept = b .kept }
+
+-- what was laid at the front is the front
+pub front-is : {k : ℕ} {l bs l' : List ℕ} {n : ℕ} → Short k l 0 bs l' n → take n l' ≡ bs
+front-is {k} {l} {bs} {l'} {n} a =
+    let e : n ≡ length bs = a .laid .next ∙ zero-add (length bs) in
+    rw (a .laid .list, e) (take-at bs (drop (0 + length bs) l) (length bs) refl)
+
+pub front-length : {k : ℕ} {l bs l' : List ℕ} {n : ℕ} → Short k l 0 bs l' n → n ≡ length (take n l')
+front-length {k} {l} {bs} {l'} {n} a = a .laid .next ∙ zero-add (length bs) ∙ sym (ap length (front-is a))
+
+pub short-is : {k : ℕ} {l : List ℕ} {at : ℕ} {bs cs l' : List ℕ} {r : ℕ} → Short k l at bs l' r → bs ≡ cs → Short k l at cs l' r
+short-is a e = rw e at a
+
+-- a number and bytes
+pub hex-length : (bs : List ℕ) → length (hexOf bs) ≡ hexSize (length bs)
+hex-length [] = refl
+hex-length (b ∷ bs) =
+    let n : suc (length bs) ≡ 0 → ⊥ = λ z. omega arith in
+    hexes-length (b ∷ bs) ∙ simp (ne-eqb (suc (length bs)) 0 n)
+
+pub size-least : (n : ℕ) → 2 * n ≤ hexSize n
+size-least n = go (eqb n 0) refl
+  where
+    go : (t : Bool) → eqb n 0 ≡ t → 2 * n ≤ hexSize n
+    go true e = let h : n ≡ 0 = eqb-true n 0 e in rw e (omega arith)
+    go false e = rw e (omega arith)
+
+pub bytes-length : (a : ℕ) (bs : List ℕ) → length (bytesText a bs) ≡ length (decimalOf a ++ (32 ∷ [])) + hexSize (length bs)
+unfolding bytesText
+bytes-length a bs = length-append (decimalOf a ++ (32 ∷ [])) (hexOf bs) ∙ rw (hex-length bs)
+
+-- the front from the local text, then the bytes
+pub after-front : {k : ℕ} {t xs t' : List ℕ} {n : ℕ} {l : List ℕ} {at : ℕ} {ys m l' : List ℕ} {p r : Put} → Short k t 0 xs t' n
+    → Wrote true l at (take n t') m p → Wrote true m (at + n) ys l' r → at + length xs + length ys ≤ length l → Wrote true l at (xs ++ ys) l' r
+after-front {k} {t} {xs} {t'} {n} {l} {at} {ys} {m} {l'} {p} {r} f a b h =
+    let e : n ≡ length xs = f .laid .next ∙ zero-add (length xs) in
+    let w : Wrote true l at xs m p = rw (front-is f) at a in
+    let x : Wrote true m (at + length xs) ys l' r = rw e at b in
+    let s = short-put (length xs) w (omega arith) (omega arith) in
+    let q = s .kept in
+    let y : r ≡ Put.Next (at + length xs + length ys) = next-is x (omega arith) in
+    rw y (from-laid refl (rw (length-append xs ys) (omega arith)) (chain-put (s .laid) x (omega arith)))

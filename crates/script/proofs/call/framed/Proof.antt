@@ -1,0 +1,15 @@
+use mathlib.Core.Path.{_≡_, refl, sym, ap, _∙_}
+use Rattle.script.specs.Call.{framedOf}
+use borrow.Author.Needs.{needs}
+use Rattle.script.proofs.call.framed.Statement.{statement}
+use Rattle.script.proofs.call.framed.Tie as tie
+
+pub framed-spec : {M : Type 1} → statement M
+unfolding framedOf
+framed-spec =
+    tie.close
+    (tie.spec
+    (λ c. search needs)
+    (λ c κs. search needs)
+    (λ c. simp (sym (c .before .same .ensures) ∙ c .if1 .taken))
+    (λ c. simp (sym (c .before .same .ensures) ∙ c .if1 .left)))

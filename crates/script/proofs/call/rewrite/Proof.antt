@@ -1,0 +1,16 @@
+use mathlib.Core.Path.{_≡_, refl, sym, ap, _∙_}
+use Rattle.script.specs.Call.{rewriteOf}
+use borrow.Author.Needs.{needs}
+use Rattle.script.proofs.call.rewrite.Statement.{statement}
+use Rattle.script.proofs.call.rewrite.Tie as tie
+
+pub rewrite-spec : {M : Type 1} → statement M
+unfolding rewriteOf
+rewrite-spec =
+    tie.close
+    (tie.spec
+    (λ c κs. search needs)
+    (λ c. search needs)
+    (λ c. search needs)
+    (λ c. simp (sym (c .before .before .read .ensures) ∙ c .enum-told .given .1))
+    (λ c. simp (sym (c .before .before .before .read .ensures) ∙ c .before .size .given .1)))

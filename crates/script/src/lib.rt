@@ -1,0 +1,3 @@
+// The call script: which call a line names, and how its answer reads.
+pub mod answer;
+pub mod call;
