@@ -129,6 +129,12 @@ framed-read {s} {h} {es} f =
     = ap (λ (k : ℕ). record { sequence = h .sequence; time = h .time; length = k }) (sym (f .total)) in
     (ap judgeOf (f .bytes) ∙ c .0 ∙ ap Judged.Frame e, ap (λ (l : List ℕ). itemsOf l 14) (f .bytes) ∙ c .1)
 
+-- the reader accepts exactly the frames of the layout: accepted if and only if the bytes are the layout of a header and a list
+-- of valid items
+pub exactly : (s : List ℕ) → Bytes s → (h : Header)
+    → (judgeOf s ≡ Judged.Frame h → Framed s h (itemsOf s 14)) × ((es : List Entry) → Framed s h es → judgeOf s ≡ Judged.Frame h)
+exactly s b h = (λ j. accepts s b j, λ es f. framed-read f .0)
+
 -- the header and the list are unique
 pub unique : {s : List ℕ} {h k : Header} {es fs : List Entry} → Framed s h es → Framed s k fs → (h ≡ k) × (es ≡ fs)
 unique {s} {h} {k} {es} {fs} f g =

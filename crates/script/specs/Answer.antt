@@ -33,8 +33,8 @@ unfoldable pub fieldText : ℕ → List ℕ
 fieldText v = 32 ∷ decimalOf v
 
 -- a space and '-' (45) for what is not there
-abbrev pub none : List ℕ
-none = 32 ∷ 45 ∷ []
+abbrev pub dash : List ℕ
+dash = 32 ∷ 45 ∷ []
 
 -- SEC NANO
 unfoldable pub timeText : Time → List ℕ
@@ -42,7 +42,7 @@ timeText t = fieldText (t .sec) ++ fieldText (t .nano)
 
 abbrev pub stateText : State → List ℕ
 stateText (State.Byte b) = fieldText b
-stateText State.Absent = none
+stateText State.Absent = dash
 
 -- CHANNELS/SLOT/CYCLE
 unfoldable pub flexrayText : ℕ → ℕ → ℕ → List ℕ
@@ -52,11 +52,11 @@ abbrev pub identText : Ident → List ℕ
 identText (Ident.Can key) = fieldText key
 identText (Ident.Lin pid) = fieldText pid
 identText (Ident.FlexRay channels slot cycle) = flexrayText channels slot cycle
-identText (Ident.Bare k) = none
+identText (Ident.Bare k) = dash
 
 abbrev pub loadText : Bool → ℕ → List ℕ
 loadText true n = fieldText n
-loadText false n = none
+loadText false n = dash
 
 -- 0 NEXT SEC NANO
 unfoldable pub placedText : ℕ → Time → List ℕ
@@ -77,7 +77,7 @@ judgedText j =
 abbrev pub steppedText : Stepped → List ℕ
 steppedText (Stepped.Item next time item n) = placedText next time ++ itemText item n
 steppedText Stepped.End = 48 ∷ 32 ∷ 101 ∷ 110 ∷ 100 ∷ []
-steppedText (Stepped.Refused why) = decimalOf (numberOf why) ++ (none ++ none ++ none ++ none ++ none ++ none ++ none ++ none)
+steppedText (Stepped.Refused why) = decimalOf (numberOf why) ++ (dash ++ dash ++ dash ++ dash ++ dash ++ dash ++ dash ++ dash)
 
 -- '?' (63) and the number of a line that is no call
 unfoldable pub badText : ℕ → List ℕ

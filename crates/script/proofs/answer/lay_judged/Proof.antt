@@ -21,6 +21,6 @@ lay-judged-spec =
     (λ c. search needs)
     (λ c κs. search needs)
     (λ c. search needs)
-    (λ c. 
+    (λ c.
     short-as (short-then (short-then (short-then (c .before .before .before .before .before .before .before .before .before .before .before .before .before .before .before .before .number .ensures) (c .before .before .before .before .before .before .before .before .before .before .before .field .ensures)) (c .before .before .before .before .before .before .before .time .ensures)) (c .before .before .field2 .ensures))
     (rw (c .before .before .before .before .before .before .before .before .before .before .before .before .before .before .before .before .before .judged-number .ensures, c .before .before .before .before .before .before .before .before .before .before .before .before .before .before .before .before .before .before .before .before .judged-header .ensures)) (omega arith)))
