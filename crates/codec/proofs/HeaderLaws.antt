@@ -1,10 +1,10 @@
 -- Laws of the header. Assumes nothing.
 use Prim.Native.Nat.{ℕ, _+_, _-_, _≤_, _<_}
-use mathlib.Core.Path.{_≡_, refl, sym, _∙_, ap}
+use mathlib.Core.Path.{_≡_, refl, _∙_}
 use mathlib.Core.Bool.{true}
-use mathlib.Core.List.{List, [], _∷_, _++_}
+use mathlib.Core.List.{List, [], _∷_}
 use native.Mathlib.Omega.{arith}
-use lib.ListN.{length, getD, length-append}
+use lib.ListN.{length, getD}
 use Rattle.codec.specs.declared.number.Put.{Put}
 use Rattle.codec.specs.declared.header.Header.{Header}
 use Rattle.codec.specs.declared.header.HeaderRead.{HeaderRead}

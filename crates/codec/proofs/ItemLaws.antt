@@ -1,21 +1,20 @@
 -- Laws of ids and items. Assumes nothing.
-use Prim.Native.Nat.{ℕ, zero, suc, _+_, _-_, _*_, _/_, _%_, _^_, _≤_, _<_}
-use mathlib.Core.Path.{_≡_, refl, sym, _∙_, ap}
-use mathlib.Core.Bool.{Bool, true, false, not, _&&_, _||_}
+use Prim.Native.Nat.{ℕ, _+_, _-_, _*_, _/_, _%_, _^_, _≤_, _<_}
+use mathlib.Core.Path.{_≡_, refl, sym, _∙_}
+use mathlib.Core.Bool.{Bool, true, false, _&&_}
 use mathlib.Core.List.{List, [], _∷_, _++_}
 use native.Mathlib.Omega.{arith}
 use lib.ListN.{length, length-append}
-use lib.Dec.{ltb, leb, eqb}
+use lib.Dec.{leb, eqb}
 use lib.Bits.{bitAnd, bitOr, or-shifted, and-mask}
 use mir.Val.{boolByte}
 use borrow.Author.Tests.{leb-true, eqb-true, eq-eqb, ne-eqb}
-use Rattle.codec.specs.Choice.{pick, bit}
+use Rattle.codec.specs.Choice.{bit}
 use Rattle.codec.specs.Number.{be, Laid, Below}
 use Rattle.codec.specs.Ident.{kindOf, identBytes, identOk, mostOf, canFd, canMost, flexrayRange}
 use Rattle.codec.specs.Item.{stateBytes, setOf, setOk, stateOk, loadOk, loadBytes, loadLength, flagsOf, encode, itemOk, itemLength}
 use Rattle.codec.specs.declared.ident.Ident.{Ident}
 use Rattle.codec.specs.declared.ident.Ident.the-variants as Ident
-use Rattle.codec.specs.declared.item.State.{State}
 use Rattle.codec.specs.declared.item.Item.{Item}
 use Rattle.codec.proofs.BoolLaws.{and-l, and-r}
 use Rattle.codec.proofs.NumberLaws.{chain}

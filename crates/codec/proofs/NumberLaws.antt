@@ -3,18 +3,17 @@ use Prim.Native.Nat.{ℕ, zero, suc, _+_, _-_, _*_, _/_, _%_, _^_, _≤_, _<_}
 use mathlib.Core.Path.{_≡_, refl, sym, _∙_, ap}
 use mathlib.Core.Bool.{Bool, true, false}
 use mathlib.Core.List.{List, [], _∷_, _++_, append-assoc}
-use native.Mathlib.Nat.{add-suc, suc-add, zero-add, add-zero, add-assoc, pow-suc, pow-succ', pow-le-pow-right, div-div-eq-div-mul}
+use native.Mathlib.Nat.{add-suc, suc-add, add-zero, add-assoc, pow-suc, pow-succ', pow-le-pow-right, div-div-eq-div-mul}
 use native.Mathlib.Numerals.{add-one}
 use native.Mathlib.Omega.{arith}
 use lib.ListN.{length, take, drop, set, getD, length-append, length-set, length-drop, drop-of-length-le}
 use lib.Seq.{sets, sets-eq, drop-cons, paste-zero, take-at, drop-append-add, drop-drop, length-take-le, take-suc, set-at, getD-drop}
-use lib.Dec.{leb}
 use Rattle.codec.specs.Choice.{pick}
 use borrow.Author.Tests.{le-leb, lt-leb, leb-true}
 use Rattle.codec.specs.declared.number.Put.{Put}
 use Rattle.codec.specs.declared.number.Put.the-variants as Put
 use Rattle.codec.specs.declared.number.Part.the-variants as Part
-use Rattle.codec.specs.Number.{partOf, be, val, over, shr, word, wordAt, fits, Bytes, Wrote, Laid, Word}
+use Rattle.codec.specs.Number.{partOf, be, val, over, shr, word, wordAt, fits, Wrote, Laid, Word}
 
 -- stores at at + k, at + (k + 1), ..: what straight-line code leaves
 abbrev pub stores : List ℕ → ℕ → ℕ → List ℕ → List ℕ

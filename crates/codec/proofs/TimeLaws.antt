@@ -5,14 +5,13 @@ use mathlib.Core.Bool.{Bool, true, false, _&&_}
 use native.Mathlib.Omega.{arith}
 use lib.Dec.{ltb, leb}
 use borrow.Author.Tests.{lt-ltb, le-ltb, le-leb, lt-leb, ltb-true, ltb-false, leb-true, leb-false}
-use Rattle.codec.specs.Choice.{pick}
 use Rattle.codec.specs.declared.time.Time.{Time}
 use Rattle.codec.specs.declared.time.Ticks.{Ticks}
 use Rattle.codec.specs.declared.time.Elapsed.{Elapsed}
 use Rattle.codec.specs.declared.time.Elapsed.the-variants as Elapsed
 use Rattle.codec.specs.declared.time.Span.{Span}
 use Rattle.codec.specs.declared.time.Span.the-variants as Span
-use Rattle.codec.specs.Time.{ns, timeOk, millisOf, ticksOf, elapsed, spanOf, overdueOf, recoveredOf}
+use Rattle.codec.specs.Time.{ns, millisOf, ticksOf, elapsed, spanOf, overdueOf, recoveredOf}
 
 pub back : (f t : ℕ) → t < f → Span.Backwards ≡ spanOf f t
 unfolding spanOf

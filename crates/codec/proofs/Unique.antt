@@ -2,8 +2,6 @@
 use mathlib.Core.Path.{_≡_, sym, _∙_, ap}
 use Prim.Native.Nat.{ℕ}
 use denote.Ref.{now}
-use Rattle.codec.specs.declared.time.Nanos.{Nanos}
-use Rattle.codec.specs.declared.time.Millis.{Millis}
 use Rattle.codec.proofs.field.read_flags.Reads as read-flags
 use Rattle.codec.proofs.field.read_state.Reads as read-state
 use Rattle.codec.proofs.field.read_ident.Reads as read-ident

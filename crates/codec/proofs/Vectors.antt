@@ -9,7 +9,6 @@ use Rattle.codec.specs.Item.{encode}
 use Rattle.codec.specs.Field.{readFlags, readState, canIdent, flexrayIdent, readCan, readFlexray, readIdent, readLoad, readItem, bytesAt}
 use Rattle.codec.specs.Header.{readHeader}
 use Rattle.codec.specs.Time.{ns, elapsed, ticksOf, recoveredOf}
-use Rattle.codec.specs.declared.time.Time.{Time}
 use Rattle.codec.specs.declared.time.Elapsed.the-variants as Elapsed
 use Rattle.codec.specs.declared.ident.Kind.the-variants as Kind
 use Rattle.codec.specs.declared.ident.Ident.the-variants as Ident

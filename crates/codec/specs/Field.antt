@@ -1,7 +1,7 @@
 -- What reading the fields of an item finds, left to right, missing bytes before a wrong value
 -- (01, "Reading a frame").
-use Prim.Native.Nat.{ℕ, _+_, _*_, _/_, _%_, _^_}
-use mathlib.Core.Bool.{Bool, true, false, not}
+use Prim.Native.Nat.{ℕ, _+_, _*_, _/_, _%_}
+use mathlib.Core.Bool.{Bool, not}
 use mathlib.Core.List.{List, []}
 use lib.ListN.{take, drop, getD}
 use lib.Dec.{ltb, eqb}
@@ -17,7 +17,6 @@ use Rattle.codec.specs.declared.ident.Ident.{Ident}
 use Rattle.codec.specs.declared.ident.Ident.the-variants as Ident
 use Rattle.codec.specs.declared.item.State.{State}
 use Rattle.codec.specs.declared.item.State.the-variants as State
-use Rattle.codec.specs.declared.item.Item.{Item}
 use Rattle.codec.specs.declared.field.FlagsRead.{FlagsRead}
 use Rattle.codec.specs.declared.field.FlagsRead.the-variants as FlagsRead
 use Rattle.codec.specs.declared.field.StateRead.{StateRead}

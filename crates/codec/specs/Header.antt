@@ -1,6 +1,5 @@
 -- The header of a frame (01, "Frame bytes"; 000, 7.4.2.1), and its refusals in their order.
 use Prim.Native.Nat.{ℕ, _+_, _-_}
-use mathlib.Core.Bool.{Bool, true, false}
 use mathlib.Core.List.{List, [], _∷_, _++_}
 use lib.ListN.{length, getD}
 use lib.Dec.{ltb, leb, eqb}

@@ -1,10 +1,10 @@
 -- An item as bytes (01, "Frame bytes"; 000, 7.4.2.2).
-use Prim.Native.Nat.{ℕ, _+_, _*_, _/_, _%_, _^_}
+use Prim.Native.Nat.{ℕ, _+_, _*_, _/_, _%_}
 use mathlib.Core.Bool.{Bool, true, false, _&&_, _||_}
 use mathlib.Core.List.{List, [], _∷_, _++_}
 use lib.ListN.{length}
 use lib.Dec.{leb, eqb}
-use Rattle.codec.specs.Choice.{pick, bit}
+use Rattle.codec.specs.Choice.{bit}
 use Rattle.codec.specs.Number.{be}
 use Rattle.codec.specs.Ident.{networkType, kindOf, identBytes, identBit, identOk, mostOf}
 use Rattle.codec.specs.declared.ident.Kind.{Kind}

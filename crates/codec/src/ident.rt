@@ -1,6 +1,5 @@
 // The frame ids of the three buses, and the network types.
 ghost use mathlib.Core.Path.{_≡_};
-ghost use Prim.Native.Nat.{_≤_};
 ghost use Rattle.codec.specs.Ident.{networkType, kindIn, kindOf, canZero, canRange, canFd, flexrayRange, identOk, canMost, mostOf};
 ghost use Rattle.codec.specs.Number.{Below};
 

@@ -2,22 +2,20 @@
 use Prim.Native.Nat.{ℕ, zero, suc, _+_, _-_, _≤_, _<_}
 use mathlib.Core.Path.{_≡_, refl, sym, _∙_, ap}
 use mathlib.Core.Bool.{Bool, true, false}
-use mathlib.Core.List.{List, [], _∷_, _++_}
+use mathlib.Core.List.{List, [], _++_}
 use native.Mathlib.Omega.{arith}
 use lib.ListN.{length, length-append}
 use lib.Seq.{paste-zero}
-use lib.Dec.{ltb, eqb, leb}
+use lib.Dec.{ltb}
 use borrow.Author.Tests.{ltb-true, ltb-false, lt-leb, le-leb}
-use Rattle.codec.specs.Choice.{pick}
 use Rattle.codec.specs.Time.{timeOk}
 use Rattle.codec.specs.Number.{Bytes, over, Wrote}
 use Rattle.codec.specs.Item.{encode, itemOk}
 use Rattle.codec.specs.Field.{readItem, bytesAt}
 use Rattle.codec.specs.Header.{readHeader, headerBytes}
-use Rattle.codec.specs.Layout.{Entry, body, layout}
+use Rattle.codec.specs.Layout.{body, layout}
 use Rattle.codec.specs.declared.item.Item.{Item}
 use Rattle.codec.specs.declared.refusal.Refusal.{Refusal}
-use Rattle.codec.specs.declared.refusal.Refusal.the-variants as Refusal
 use Rattle.codec.specs.declared.number.Put.{Put}
 use Rattle.codec.specs.declared.header.Header.{Header}
 use Rattle.codec.specs.declared.header.HeaderRead.{HeaderRead}
@@ -27,7 +25,7 @@ use Rattle.codec.specs.declared.field.ItemRead.the-variants as ItemRead
 use Rattle.codec.proofs.NumberLaws.{over-over, kept, length-over}
 use Rattle.codec.proofs.HeaderLaws.{header-length}
 use Rattle.codec.proofs.Inverse.{read-room, item-forth, header-got, header-forth}
-use Rattle.reader.proofs.AlongLaws.{walk-end, walk-item, walk-bad, items-end, items-item}
+use Rattle.reader.proofs.AlongLaws.{walk-item, walk-bad, items-end, items-item}
 use Rattle.reader.specs.declared.frame.Verdict.{Verdict}
 use Rattle.reader.specs.declared.frame.Verdict.the-variants as Verdict
 use Rattle.reader.specs.declared.frame.Judged.{Judged}

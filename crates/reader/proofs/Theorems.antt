@@ -4,42 +4,39 @@ use mathlib.Core.Path.{_≡_, refl, sym, _∙_, ap}
 use mathlib.Core.Bool.{Bool, true, false, _||_}
 use mathlib.Core.List.{List, [], _∷_, _++_, append-nil}
 use native.Mathlib.Omega.{arith}
-use lib.ListN.{length, getD, take, drop, length-append, take-append-drop}
-use lib.Dec.{ltb, eqb, leb}
-use lib.Seq.{drop-length, drop-drop, take-at, drop-at, length-take-le}
-use borrow.Author.Tests.{leb-true, ltb-true, ltb-false, lt-leb, le-leb, eq-eqb, ne-eqb}
-use Rattle.codec.specs.Choice.{pick}
-use Rattle.codec.specs.Number.{Bytes, over, word, wordAt}
+use lib.ListN.{length, take, drop, length-append, take-append-drop}
+use lib.Dec.{ltb, eqb}
+use lib.Seq.{drop-length, drop-drop}
+use borrow.Author.Tests.{ltb-true, ltb-false, eq-eqb, ne-eqb}
+use Rattle.codec.specs.Number.{Bytes}
 use Rattle.codec.specs.Time.{recoveredOf}
-use Rattle.codec.specs.Item.{encode, itemOk}
+use Rattle.codec.specs.Item.{encode}
 use Rattle.codec.specs.Field.{readItem, bytesAt}
-use Rattle.codec.specs.Header.{readHeader, headerIn, headerBytes}
-use Rattle.codec.specs.Layout.{Entry, Head, Valid, AllValid, body, layout}
+use Rattle.codec.specs.Header.{readHeader, headerBytes}
+use Rattle.codec.specs.Layout.{Entry, Head, AllValid, body, layout}
 use Rattle.codec.specs.declared.time.Time.{Time}
 use Rattle.codec.specs.declared.item.Item.{Item}
-use Rattle.codec.specs.declared.refusal.Refusal.{Refusal}
-use Rattle.codec.specs.declared.refusal.Refusal.the-variants as Refusal
 use Rattle.codec.specs.declared.header.Header.{Header}
 use Rattle.codec.specs.declared.header.HeaderRead.{HeaderRead}
 use Rattle.codec.specs.declared.header.HeaderRead.the-variants as HeaderRead
 use Rattle.codec.specs.declared.field.ItemRead.{ItemRead}
 use Rattle.codec.specs.declared.field.ItemRead.the-variants as ItemRead
-use Rattle.codec.proofs.Stands.{Stands, left, right, part-back}
+use Rattle.codec.proofs.Stands.{Stands, left, right, part-back, bytes-join}
 use Rattle.codec.proofs.Inverse.{read-room, item-forth, header-got, header-forth}
-use Rattle.codec.proofs.RoundTrip.{payloadPlace, item-back, payload-back, header-back}
+use Rattle.codec.proofs.RoundTrip.{item-back, payload-back, header-back, encode-bytes, header-bytes}
 use Rattle.codec.proofs.BoolLaws.{or-true, or-false}
 use Rattle.codec.proofs.NumberLaws.{word-is}
 use Rattle.codec.proofs.HeaderLaws.{header-length}
-use Rattle.reader.proofs.AlongLaws.{walk-end, walk-item, walk-bad, items-end, items-item, starts-end, starts-item, starts-here, starts-last}
-use Rattle.reader.proofs.FrameLaws.{accepted, not-bad, laid-is, laid-length, body-length}
+use Rattle.reader.proofs.AlongLaws.{walk-end, walk-item, items-end, items-item, starts-item, starts-here, starts-last}
+use Rattle.reader.proofs.FrameLaws.{accepted, not-bad, laid-length, body-length}
 use Rattle.reader.specs.declared.frame.Judged.{Judged}
 use Rattle.reader.specs.declared.frame.Judged.the-variants as Judged
 use Rattle.reader.specs.declared.frame.Verdict.{Verdict}
 use Rattle.reader.specs.declared.frame.Verdict.the-variants as Verdict
 use Rattle.reader.specs.declared.place.Stepped.{Stepped}
 use Rattle.reader.specs.declared.place.Stepped.the-variants as Stepped
-use Rattle.reader.specs.Frame.{walkOf, itemsOf, startsOf, Clean, judgeOf, laidOut, stepOf, heldOf, payloadOf, payloadAtOf, itemAtOf, timeIn, rewrittenOf}
-use Rattle.reader.specs.Listing.{Yield, stepping, listing, placesOf, among, Framed}
+use Rattle.reader.specs.Frame.{walkOf, itemsOf, startsOf, Clean, judgeOf, laidOut, stepOf, heldOf, payloadOf, payloadAtOf, itemAtOf, timeIn}
+use Rattle.reader.specs.Listing.{stepping, listing, placesOf, among, Framed}
 
 -- the bytes from a place on are the layout of the items read there, and each item is valid
 module _ (s : List ℕ) (b : Bytes s) where
@@ -107,6 +104,17 @@ module _ (s : List ℕ) where
       = omega (arith, length-append (encode (e .item) (e .payload)) (body es)) in
       let x = read-back es (at + length (encode (e .item) (e .payload))) (v .1) w2 m in
       (walk-item s at k q ∙ x .0, items-item s at k q ∙ rw (p, x .1))
+
+-- every number of a frame of the layout is a byte
+body-bytes : (es : List Entry) → AllValid es → Bytes (body es)
+body-bytes [] v = tt
+body-bytes (e ∷ es) v = bytes-join (encode (e .item) (e .payload)) (body es) (encode-bytes e (v .0)) (body-bytes es (v .1))
+
+pub layout-bytes : (n : ℕ) (t : Time) (es : List Entry) → Head n t es → AllValid es → Bytes (layout n t es)
+unfolding layout
+layout-bytes n t es d v =
+    bytes-join (headerBytes (record { sequence = n; time = t; length = length (body es) })) (body es)
+    (header-bytes (record { sequence = n; time = t; length = length (body es) }) (d .sequence)) (body-bytes es v)
 
 -- every frame of the layout is accepted, and read back as its header and its items
 pub complete : (n : ℕ) (t : Time) (es : List Entry) → Head n t es → AllValid es

@@ -1,8 +1,8 @@
 -- Reading a frame (01, "Reading a frame"): the verdict on the whole, then header, items and payloads.
-use Prim.Native.Nat.{ℕ, zero, suc, _+_, _-_}
+use Prim.Native.Nat.{ℕ, zero, suc, _-_}
 use mathlib.Core.Path.{_≡_}
-use mathlib.Core.Bool.{Bool, true, false, _||_}
-use mathlib.Core.List.{List, [], _∷_, _++_}
+use mathlib.Core.Bool.{Bool, false, _||_}
+use mathlib.Core.List.{List, [], _∷_}
 use lib.ListN.{length}
 use lib.Dec.{leb, eqb}
 use Rattle.codec.specs.Choice.{pick}
@@ -10,7 +10,7 @@ use Rattle.codec.specs.Number.{wordAt, over}
 use Rattle.codec.specs.Time.{recoveredOf}
 use Rattle.codec.specs.Field.{readItem, bytesAt}
 use Rattle.codec.specs.Header.{readHeader}
-use Rattle.codec.specs.Layout.{Entry, body, layout}
+use Rattle.codec.specs.Layout.{Entry, layout}
 use Rattle.codec.specs.declared.time.Time.{Time}
 use Rattle.codec.specs.declared.refusal.Refusal.{Refusal}
 use Rattle.codec.specs.declared.refusal.Refusal.the-variants as Refusal

@@ -1,5 +1,5 @@
 -- Short texts laid one after the other. Assumes nothing.
-use Prim.Native.Nat.{ℕ, suc, _+_, _*_, _≤_, _<_}
+use Prim.Native.Nat.{ℕ, suc, _+_, _*_, _≤_}
 use mathlib.Core.Path.{_≡_, refl, sym, _∙_, ap}
 use mathlib.Core.Bool.{Bool, true, false}
 use mathlib.Core.List.{List, [], _∷_, _++_}
@@ -8,7 +8,7 @@ use native.Mathlib.Nat.{zero-add}
 use lib.ListN.{length, take, drop, length-append}
 use lib.Seq.{take-at}
 use lib.Dec.{eqb}
-use Rattle.codec.specs.Number.{over, Laid, Wrote}
+use Rattle.codec.specs.Number.{over, Wrote}
 use Rattle.codec.specs.declared.number.Put.{Put}
 use Rattle.codec.specs.declared.number.Put.the-variants as Put
 use Rattle.codec.proofs.NumberLaws.{hit, kept, chain, chain-put, from-laid, length-over}

@@ -6,7 +6,7 @@ use mathlib.Core.List.{List, [], _∷_, _++_}
 use lib.ListN.{length}
 use lib.Dec.{eqb}
 use Rattle.codec.specs.Choice.{pick}
-use Rattle.codec.specs.Number.{over, Laid}
+use Rattle.codec.specs.Number.{Laid}
 use Rattle.codec.specs.Refusal.{numberOf}
 use Rattle.codec.specs.Ident.{networkType, kindOf}
 use Rattle.codec.specs.declared.time.Time.{Time}

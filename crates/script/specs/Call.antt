@@ -1,6 +1,5 @@
 -- The lines of a call script, by their words.
 use Prim.Native.Nat.{ℕ}
-use mathlib.Core.Bool.{Bool}
 use mathlib.Core.List.{List, [], _∷_}
 use lib.Dec.{eqb}
 use Rattle.codec.specs.Choice.{pick}

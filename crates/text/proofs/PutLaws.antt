@@ -3,7 +3,6 @@ use Prim.Native.Nat.{ℕ, zero, suc, _+_, _-_, _*_, _/_, _%_, _≤_, _<_}
 use mathlib.Core.Path.{_≡_, refl, sym, _∙_, ap}
 use mathlib.Core.Bool.{Bool, true, false}
 use mathlib.Core.List.{List, [], _∷_, _++_, append-assoc, append-nil}
-use native.Mathlib.Nat.{add-zero, add-suc}
 use native.Mathlib.Numerals.{add-one, add-two}
 use native.Mathlib.Omega.{arith}
 use Rattle.codec.specs.Choice.{pick}
@@ -11,8 +10,8 @@ use lib.ListN.{length, length-append, getD, take, drop, set, length-set, length-
 use lib.Seq.{drop-cons, take-all, sets, sets-eq, drop-set-lt, getD-set-same}
 use lib.Dec.{ltb}
 use Rattle.codec.proofs.NumberLaws.{full, wrote}
-use borrow.Author.Tests.{le-leb, lt-leb, lt-ltb, le-ltb}
-use Rattle.codec.specs.Number.{over, fits, Wrote}
+use borrow.Author.Tests.{lt-ltb, le-ltb}
+use Rattle.codec.specs.Number.{over, Wrote}
 use Rattle.text.specs.Put.{letterOf, hexes, hexOf, decimals, decimalOf, Ends}
 use Rattle.codec.specs.declared.number.Put.{Put}
 use Rattle.codec.specs.declared.number.Put.the-variants as Put

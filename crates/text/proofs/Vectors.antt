@@ -1,7 +1,7 @@
 -- Worked examples, computed by antt. Assumes nothing.
 use mathlib.Core.Path.{_≡_, refl}
 use mathlib.Core.Bool.{true, false}
-use mathlib.Core.List.{List, [], _∷_}
+use mathlib.Core.List.{[], _∷_}
 use Rattle.text.specs.Digit.{digitOf}
 use Rattle.text.specs.Number.{restOf, digitsOf, hexed, numberOf}
 use Rattle.text.specs.Put.{letterOf, hexOf, decimals, decimalOf}

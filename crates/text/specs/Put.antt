@@ -1,10 +1,9 @@
 -- Numbers and bytes as text.
 use Prim.Native.Nat.{ℕ, zero, suc, _+_, _/_, _%_, _≤_}
 use mathlib.Core.Path.{_≡_}
-use mathlib.Core.Bool.{Bool}
 use mathlib.Core.List.{List, [], _∷_, _++_}
-use lib.ListN.{length, take, drop}
-use lib.Dec.{ltb, leb}
+use lib.ListN.{drop}
+use lib.Dec.{ltb}
 use Rattle.codec.specs.Choice.{pick}
 
 -- '0' to '9' and 'a' to 'f'

@@ -1,6 +1,6 @@
 // A line: its comment and trailing spaces cut, and its words.
 ghost use mathlib.Core.Path.{_≡_};
-ghost use Rattle.text.specs.Line.{Found, ahead, trimmed, keptOf, wordsOf, wordOf, sameOf};
+ghost use Rattle.text.specs.Line.{Found, trimmed, keptOf, wordsOf, wordOf, sameOf};
 
 // Where b first stands, or the length.
 pub fn find(s: &[u8], b: u8) -> usize

@@ -1,6 +1,5 @@
-use mathlib.Core.Path.{_≡_, refl, sym, ap, _∙_}
+use mathlib.Core.Path.{sym, _∙_}
 use Prim.Native.Nat.{_/_}
-use borrow.Author.Tests.{lt-ltb, le-ltb, le-leb, lt-leb, eq-eqb, ne-eqb, not-true, not-false}
 use lib.Bits.{and-mask}
 use Rattle.codec.proofs.ItemLaws.{slot-sum, marked, unmarked}
 use Rattle.codec.specs.Field.{flexrayIdent}

@@ -1,4 +1,4 @@
-use mathlib.Core.Path.{_≡_, refl, sym, ap, _∙_}
+use mathlib.Core.Path.{sym, _∙_}
 use lib.Bits.{and-mask}
 use Rattle.codec.specs.Field.{readFlags}
 use borrow.Author.Needs.{needs}

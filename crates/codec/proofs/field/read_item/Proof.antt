@@ -1,10 +1,9 @@
-use mathlib.Core.Path.{_≡_, refl, sym, ap, _∙_}
+use mathlib.Core.Path.{sym, ap, _∙_}
 use Prim.Native.Nat.{_/_}
 use lib.Bits.{and-mask}
-use Rattle.codec.specs.Field.{readItem}
+use Rattle.codec.specs.Field.{readItem, whyLoad}
 use Rattle.codec.proofs.FieldLaws.{read-last}
 use Rattle.codec.specs.declared.field.LoadRead.the-variants as LoadRead
-use Rattle.codec.specs.Field.{whyLoad}
 use borrow.Author.Needs.{needs}
 use Rattle.codec.proofs.field.read_item.Statement.{statement}
 use Rattle.codec.proofs.field.read_item.Tie as tie

@@ -1,4 +1,4 @@
-use mathlib.Core.Path.{_≡_, refl, sym, ap, _∙_}
+use mathlib.Core.Path.{sym, _∙_}
 use Rattle.codec.specs.Field.{readLin}
 use borrow.Author.Needs.{needs}
 use Rattle.codec.proofs.field.read_lin.Statement.{statement}

@@ -1,4 +1,4 @@
-use mathlib.Core.Path.{_≡_, refl, sym, ap, _∙_}
+use mathlib.Core.Path.{sym, ap}
 use Rattle.codec.specs.Field.{whyState}
 use borrow.Author.Needs.{needs}
 use Rattle.codec.proofs.field.why_state.Statement.{statement}

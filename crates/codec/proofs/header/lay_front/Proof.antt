@@ -1,6 +1,6 @@
 use mathlib.Core.List.{[], _∷_}
 use lib.ListN.{length-set}
-use mathlib.Core.Path.{_≡_, refl, sym, ap, _∙_}
+use mathlib.Core.Path.{refl}
 use Rattle.codec.proofs.NumberLaws.{laid}
 use borrow.Author.Needs.{needs}
 use native.Mathlib.Omega.{arith}

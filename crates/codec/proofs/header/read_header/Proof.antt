@@ -1,10 +1,4 @@
-use mathlib.Core.Path.{_≡_, refl, sym, ap, _∙_}
-use borrow.Author.Tests.{lt-ltb, le-ltb, le-leb, lt-leb, eq-eqb, ne-eqb, not-true, not-false}
-use Prim.Native.Nat.{_+_, _≤_}
-use denote.Ref.{now}
-use lib.ListN.{length}
 use Rattle.codec.proofs.HeaderLaws.{header-short, header-version, header-nanos, header-rest, header-got}
-use Rattle.codec.proofs.NumberLaws.{word-is}
 use borrow.Author.Needs.{needs}
 use Rattle.codec.proofs.header.read_header.Statement.{statement}
 use Rattle.codec.proofs.header.read_header.Tie as tie

@@ -1,4 +1,4 @@
-use mathlib.Core.Path.{_≡_, refl, sym, ap, _∙_}
+use mathlib.Core.Path.{refl}
 use Rattle.codec.specs.Ident.{flexrayRange}
 use Rattle.codec.proofs.ident.flexray_range.Statement.{statement}
 use Rattle.codec.proofs.ident.flexray_range.Tie as tie

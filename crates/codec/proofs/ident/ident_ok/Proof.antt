@@ -1,4 +1,4 @@
-use mathlib.Core.Path.{_≡_, refl, sym, ap, _∙_}
+use mathlib.Core.Path.{sym, ap, _∙_}
 use Rattle.codec.specs.Ident.{identOk}
 use borrow.Author.Needs.{needs}
 use Rattle.codec.proofs.ident.ident_ok.Statement.{statement}

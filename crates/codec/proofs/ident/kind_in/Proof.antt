@@ -1,4 +1,4 @@
-use borrow.Author.Tests.{lt-ltb, le-ltb, le-leb, lt-leb, eq-eqb, ne-eqb, not-true, not-false}
+use borrow.Author.Tests.{eq-eqb, ne-eqb}
 use Rattle.codec.specs.Ident.{kindIn}
 use Rattle.codec.proofs.ident.kind_in.Statement.{statement}
 use Rattle.codec.proofs.ident.kind_in.Tie as tie

@@ -1,4 +1,4 @@
-use mathlib.Core.Path.{_≡_, refl, sym, ap, _∙_}
+use mathlib.Core.Path.{ap, _∙_}
 use Prim.Native.Nat.{_+_, _*_}
 use Rattle.codec.specs.Item.{setOf}
 use Rattle.codec.specs.declared.ident.Kind.{Kind}

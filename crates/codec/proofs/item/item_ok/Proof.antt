@@ -1,4 +1,3 @@
-use mathlib.Core.Path.{_≡_, refl, sym, ap, _∙_}
 use Rattle.codec.specs.Item.{itemOk}
 use borrow.Author.Needs.{needs}
 use Rattle.codec.proofs.item.item_ok.Statement.{statement}

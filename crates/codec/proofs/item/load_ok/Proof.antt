@@ -1,4 +1,3 @@
-use mathlib.Core.Path.{_≡_, refl, sym, ap, _∙_}
 use Rattle.codec.proofs.item.load_ok.Statement.{statement}
 use Rattle.codec.proofs.item.load_ok.Tie as tie
 

@@ -1,4 +1,3 @@
-use mathlib.Core.Path.{_≡_, refl, sym, ap, _∙_}
 use Rattle.codec.proofs.ItemLaws.{set-made}
 use borrow.Author.Needs.{needs}
 use Rattle.codec.proofs.item.set_of.Statement.{statement}

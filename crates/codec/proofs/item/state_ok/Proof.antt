@@ -1,4 +1,4 @@
-use mathlib.Core.Path.{_≡_, refl, sym, ap, _∙_}
+use mathlib.Core.Path.{sym, ap, _∙_}
 use Rattle.codec.specs.Item.{stateOk}
 use borrow.Author.Needs.{needs}
 use Rattle.codec.proofs.item.state_ok.Statement.{statement}

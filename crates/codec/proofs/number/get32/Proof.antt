@@ -1,4 +1,4 @@
-use mathlib.Core.Path.{_≡_, refl, sym, ap, _∙_}
+use mathlib.Core.Path.{ap}
 use Prim.Native.Nat.{ℕ, _+_}
 use Rattle.codec.proofs.NumberLaws.{miss, hit}
 use Rattle.codec.specs.Number.{get32Of}

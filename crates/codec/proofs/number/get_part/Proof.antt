@@ -1,4 +1,4 @@
-use mathlib.Core.Path.{_≡_, refl, sym, ap, _∙_}
+use mathlib.Core.Path.{refl}
 use Rattle.codec.proofs.NumberLaws.{miss, hit}
 use Rattle.codec.specs.Number.{partOf}
 use borrow.Author.Needs.{needs}

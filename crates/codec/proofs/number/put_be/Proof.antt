@@ -1,5 +1,3 @@
-use lib.ListN.{length, length-set}
-use mathlib.Core.Path.{_≡_}
 use Rattle.codec.proofs.NumberLaws.{Down, down-first, down, down-last, full, length-be}
 use borrow.Author.Needs.{needs}
 use native.Mathlib.Omega.{arith}

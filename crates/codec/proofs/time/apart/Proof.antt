@@ -1,4 +1,4 @@
-use mathlib.Core.Path.{_≡_, refl, sym, ap, _∙_}
+use mathlib.Core.Path.{_∙_}
 use Rattle.codec.proofs.TimeLaws.{back, far, shift}
 use borrow.Author.Needs.{needs}
 use native.Mathlib.Omega.{arith}

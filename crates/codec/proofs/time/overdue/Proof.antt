@@ -1,4 +1,4 @@
-use mathlib.Core.Path.{_≡_, refl, sym, ap, _∙_}
+use mathlib.Core.Path.{sym, ap, _∙_}
 use Rattle.codec.proofs.TimeLaws.{by-deadline}
 use mathlib.Core.Bool.{_&&_}
 use lib.Dec.{leb}

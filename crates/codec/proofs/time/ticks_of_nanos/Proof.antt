@@ -1,5 +1,4 @@
-use mathlib.Core.Path.{_≡_, refl, sym, ap, _∙_}
-use borrow.Author.Tests.{lt-ltb, le-ltb, le-leb, lt-leb, eq-eqb, ne-eqb, not-true, not-false}
+use borrow.Author.Tests.{le-leb, lt-leb}
 use Rattle.codec.specs.Time.{ticksOf}
 use borrow.Author.Needs.{needs}
 use Rattle.codec.proofs.time.ticks_of_nanos.Statement.{statement}

@@ -1,4 +1,4 @@
-use mathlib.Core.Path.{_≡_, refl, sym, ap, _∙_}
+use mathlib.Core.Path.{sym, ap, _∙_}
 use denote.Ref.{now}
 use Rattle.reader.specs.Frame.{whyRefused}
 use Rattle.reader.proofs.FrameLaws.{accepted, rewrite-done, rewrite-small, rewrite-refused}

@@ -1,4 +1,4 @@
-use mathlib.Core.Path.{_≡_, refl, sym, ap, _∙_}
+use mathlib.Core.Path.{sym, ap, _∙_}
 use Rattle.reader.specs.Frame.{judgeOf, whyHeader}
 use Rattle.codec.proofs.Inverse.{header-got}
 use borrow.Author.Needs.{needs}

@@ -1,4 +1,4 @@
-use mathlib.Core.Path.{_≡_, refl, sym, ap, _∙_}
+use mathlib.Core.Path.{sym, _∙_}
 use Rattle.reader.specs.Frame.{heldOf}
 use Rattle.reader.proofs.FrameLaws.{accepted}
 use Rattle.codec.proofs.Inverse.{header-got}

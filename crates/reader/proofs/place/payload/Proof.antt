@@ -1,4 +1,4 @@
-use mathlib.Core.Path.{_≡_, refl, sym, ap, _∙_}
+use mathlib.Core.Path.{sym, _∙_}
 use Rattle.reader.specs.Frame.{payloadOf}
 use borrow.Author.Needs.{needs}
 use Rattle.reader.proofs.place.payload.Statement.{statement}

@@ -1,4 +1,3 @@
-use mathlib.Core.Path.{_≡_, refl, sym, ap, _∙_}
 use Rattle.reader.specs.Frame.{timeIn}
 use borrow.Author.Needs.{needs}
 use Rattle.reader.proofs.place.time_in.Statement.{statement}

@@ -1,4 +1,4 @@
-use mathlib.Core.Path.{_≡_, refl, sym, ap, _∙_}
+use mathlib.Core.Path.{sym, ap}
 use Rattle.reader.specs.Frame.{whyAt}
 use borrow.Author.Needs.{needs}
 use Rattle.reader.proofs.place.why_at.Statement.{statement}

@@ -1,4 +1,4 @@
-use mathlib.Core.Path.{_≡_, refl, sym, ap, _∙_}
+use mathlib.Core.Path.{sym, ap}
 use Rattle.script.proofs.AnswerLaws.{short-as}
 use Rattle.script.specs.Answer.{identText}
 use borrow.Author.Needs.{needs}

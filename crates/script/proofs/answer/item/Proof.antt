@@ -1,4 +1,4 @@
-use mathlib.Core.Path.{_≡_, refl, sym, ap, _∙_}
+use mathlib.Core.Path.{ap, _∙_}
 use Rattle.script.proofs.AnswerLaws.{short-then, short-is}
 use Rattle.script.specs.Answer.{itemText, fieldText}
 use Rattle.codec.specs.Ident.{networkType}

@@ -1,4 +1,3 @@
-use mathlib.Core.Path.{_≡_, refl, sym, ap, _∙_}
 use Rattle.script.proofs.AnswerLaws.{short-then, short-as}
 use Rattle.script.specs.Answer.{judgedText}
 use borrow.Author.Needs.{needs}

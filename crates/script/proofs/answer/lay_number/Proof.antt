@@ -1,5 +1,4 @@
-use Rattle.script.proofs.AnswerLaws.{short-then, short-as}
-use mathlib.Core.Path.{_≡_, refl, sym, ap, _∙_}
+use Rattle.script.proofs.AnswerLaws.{short-then}
 use borrow.Author.Needs.{needs}
 use Rattle.script.proofs.answer.lay_number.Statement.{statement}
 use Rattle.script.proofs.answer.lay_number.Tie as tie

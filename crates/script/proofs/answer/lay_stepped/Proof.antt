@@ -1,4 +1,4 @@
-use mathlib.Core.Path.{_≡_, refl, sym, ap, _∙_}
+use mathlib.Core.Path.{sym, ap}
 use Rattle.script.proofs.AnswerLaws.{short-then, short-as}
 use Rattle.script.specs.Answer.{steppedText}
 use borrow.Author.Needs.{needs}

@@ -1,4 +1,4 @@
-use mathlib.Core.Path.{_≡_, refl, sym, ap, _∙_}
+use mathlib.Core.Path.{sym, _∙_}
 use Rattle.script.specs.Call.{placedOf}
 use borrow.Author.Needs.{needs}
 use Rattle.script.proofs.call.placed.Statement.{statement}

@@ -1,8 +1,7 @@
 use Rattle.text.specs.Put.{letterOf}
-use lib.ListN.{getD}
+use lib.ListN.{getD, length, length-set}
 use borrow.Author.Needs.{needs}
 use native.Mathlib.Omega.{arith}
-use lib.ListN.{length, length-set}
 use lib.Bits.{and-mask}
 use mathlib.Core.Path.{_∙_, ap}
 use Prim.Native.Nat.{_-_}
