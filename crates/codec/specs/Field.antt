@@ -28,7 +28,7 @@ use Rattle.codec.specs.declared.field.LoadRead.the-variants as LoadRead
 use Rattle.codec.specs.declared.field.ItemRead.{ItemRead}
 use Rattle.codec.specs.declared.field.ItemRead.the-variants as ItemRead
 
--- the refusal of a field is the refusal of the item
+-- the refusal of a field is the refusal of the item; nothing asks this of a field that was got
 abbrev pub whyFlags : FlagsRead → ItemRead
 whyFlags (FlagsRead.Got kind set next) = ItemRead.Refused Refusal.Missing
 whyFlags (FlagsRead.Refused why) = ItemRead.Refused why

@@ -56,9 +56,11 @@ unfoldable pub itemsOf : List ℕ → ℕ → List Entry
 itemsOf s at =
     along [] (λ why. []) (λ here item start len rest. record { item = item; payload = bytesAt s start len } ∷ rest) (length s - at) s at
 
+-- no refusal from a place on
 abbrev pub Clean : List ℕ → ℕ → Type 0
 Clean s at = walkOf s at ≡ Verdict.Clean
 
+-- a refusal goes straight up; nothing asks this of an answer that is none
 abbrev pub whyHeader : HeaderRead → Judged
 whyHeader (HeaderRead.Got h) = Judged.Frame h
 whyHeader (HeaderRead.Refused why) = Judged.Refused why
