@@ -9,6 +9,7 @@ use native.Mathlib.Omega.{arith}
 use lib.ListN.{length, take, drop, set, getD, length-append, length-set, length-drop, drop-of-length-le}
 use lib.Seq.{sets, sets-eq, drop-cons, paste-zero, take-at, drop-append-add, drop-drop, length-take-le, take-suc, set-at, getD-drop}
 use Rattle.codec.specs.Choice.{pick}
+use Rattle.codec.proofs.Opened.{never, chosen}
 use borrow.Author.Tests.{le-leb, lt-leb, leb-true}
 use Rattle.codec.specs.declared.number.Put.{Put}
 use Rattle.codec.specs.declared.number.Put.the-variants as Put
@@ -182,30 +183,23 @@ up-last {s} {at} {n} {x} {i} u h =
 -- a part that was found lies within the list
 pub part-room : (s : List ℕ) (at n : ℕ) {next : ℕ} → partOf s at n ≡ Part.Got next → (at + n ≤ length s) × (next ≡ at + n)
 unfolding partOf fits
-part-room s at n {next} e = go (fits s at n) refl
-  where
-    go : (b : Bool) → fits s at n ≡ b → (at + n ≤ length s) × (next ≡ at + n)
-    go true f =
-        let q : Part.Got (at + n) ≡ Part.Got next = sym (simp f) ∙ e in
-        let z : at + n ≡ next = cc in
-        (leb-true (at + n) (length s) f, sym z)
-    go false f =
-        let q : Part.Short ≡ Part.Got next = sym (simp f) ∙ e in
-        let z : _≡_ {A = ℕ} 0 1 = cc in
-        let w : ⊥ = omega arith in absurd w
+part-room s at n {next} e =
+    chosen (fits s at n) (Part.Got (at + n)) Part.Short e (λ z. never (cc)) (λ f q.
+    let z : at + n ≡ next = cc in
+    (leb-true (at + n) (length s) f, sym z))
+
+pub pow-256 : (n : ℕ) → 0 < 256 ^ n
+pow-256 zero = omega arith
+pow-256 (suc n) = let h : 0 < 256 ^ n = pow-256 n in rw (pow-succ' 256 n) (omega arith)
 
 -- a number that is not all there, or too wide, reads as 0
-zero-below : (n : ℕ) → 0 < 256 ^ n
-zero-below zero = omega arith
-zero-below (suc n) = let h : 0 < 256 ^ n = zero-below n in rw (pow-succ' 256 n) (omega arith)
-
 pub word-wide : (n : ℕ) (s : List ℕ) (at : ℕ) → 8 < n → Word n (wordAt n s at) 0
 unfolding wordAt
-word-wide n s at h = record { is = simp (lt-leb n 8 h); below = zero-below n }
+word-wide n s at h = record { is = simp (lt-leb n 8 h); below = pow-256 n }
 
 pub word-short : (n : ℕ) (s : List ℕ) (at : ℕ) → n ≤ 8 → length s < at + n → Word n (wordAt n s at) 0
 unfolding wordAt
-word-short n s at h k = record { is = simp (le-leb n 8 h, no-room s at n k); below = zero-below n }
+word-short n s at h k = record { is = simp (le-leb n 8 h, no-room s at n k); below = pow-256 n }
 
 pub word-is : (n : ℕ) (s : List ℕ) (at : ℕ) → n ≤ 8 → at + n ≤ length s → wordAt n s at ≡ word n s at
 unfolding wordAt

@@ -9,6 +9,7 @@ use lib.Seq.{take-at, drop-at, length-take-le}
 use lib.Dec.{lit<}
 use lib.Arith.{mod-mul, digits-lt, digits-div}
 use Rattle.codec.specs.Number.{be, val, shr, word, Bytes}
+use Rattle.codec.proofs.NumberLaws.{pow-256}
 
 -- bs stand in s at index at
 pub record Stands (s : List ℕ) (at : ℕ) (bs : List ℕ) : Type 0 where
@@ -81,10 +82,6 @@ bytes-of (b ∷ s) f = (f 0 (omega arith), bytes-of s (λ i h. f (suc i) (omega 
 shr-is : (n v : ℕ) → shr n v ≡ v / 256 ^ n
 shr-is zero v = sym (div-one v)
 shr-is (suc n) v = refl
-
-pow-256 : (n : ℕ) → 0 < 256 ^ n
-pow-256 zero = omega arith
-pow-256 (suc n) = let h : 0 < 256 ^ n = pow-256 n in rw (pow-succ' 256 n) (omega arith)
 
 pub val-be : (n a v : ℕ) → val a (be n v) ≡ a * 256 ^ n + v % 256 ^ n
 val-be zero a v = omega arith

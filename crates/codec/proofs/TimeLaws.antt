@@ -4,6 +4,7 @@ use mathlib.Core.Path.{_≡_, refl, sym, _∙_, ap}
 use mathlib.Core.Bool.{Bool, true, false, _&&_}
 use native.Mathlib.Omega.{arith}
 use lib.Dec.{ltb, leb}
+use Rattle.codec.proofs.Opened.{never}
 use borrow.Author.Tests.{lt-ltb, le-ltb, le-leb, lt-leb, ltb-true, ltb-false, leb-true, leb-false}
 use Rattle.codec.specs.declared.time.Time.{Time}
 use Rattle.codec.specs.declared.time.Ticks.{Ticks}
@@ -101,13 +102,13 @@ unfolding elapsed ticksOf
 within f t k h = go (ltb t f) refl (leb ((t - f) / 10000) 65535) refl
   where
     go : (b : Bool) → ltb t f ≡ b → (d : Bool) → leb ((t - f) / 10000) 65535 ≡ d → (f + k * 10000 ≤ t) × (t < f + k * 10000 + 10000)
-    go true e d g = let z : _≡_ {A = ℕ} 0 1 = cc in omega arith
+    go true e d g = never (cc)
     go false e true g =
         let q : _≡_ {A = Ticks} (record { 0 = (t - f) / 10000 }) (record { 0 = k }) = cc in
         let z : (t - f) / 10000 ≡ k = ap (λ (x : Ticks). x .0) q in
         let o : f ≤ t = ltb-false t f e in
         omega arith
-    go false e false g = let z : _≡_ {A = ℕ} 0 1 = cc in omega arith
+    go false e false g = never (cc)
 
 -- the recovered time of an offset is the header time and that many ticks
 pub recovered-exact : (h : Time) (k : ℕ) → h .sec ≤ 281474976710655 → h .nano ≤ 999999999 → k ≤ 65535 → ns (recoveredOf h k) ≡ ns h + k * 10000

@@ -24,6 +24,7 @@ use Rattle.codec.specs.declared.field.ItemRead.{ItemRead}
 use Rattle.codec.specs.declared.field.ItemRead.the-variants as ItemRead
 use Rattle.codec.proofs.NumberLaws.{over-over, kept, length-over}
 use Rattle.codec.proofs.HeaderLaws.{header-length}
+use Rattle.codec.proofs.Opened.{never}
 use Rattle.codec.proofs.Inverse.{read-room, item-forth, header-got, header-forth}
 use Rattle.reader.proofs.AlongLaws.{walk-item, walk-bad, items-end, items-item}
 use Rattle.reader.specs.declared.frame.Verdict.{Verdict}
@@ -35,11 +36,27 @@ use Rattle.reader.specs.declared.copy.Rewritten.the-variants as Rewritte
 use Rattle.reader.specs.Frame.{walkOf, itemsOf, Clean, judgeOf, laidOut, rewriteOf, rewrittenOf}
 
 -- a clean walk meets no refusal
-pub not-bad : (s : List ℕ) (at : ℕ) {why : Refusal} → Clean s at → at < length s → readItem s at ≡ ItemRead.Refused why → ⊥
-not-bad s at {why} c h q =
-    let e : Verdict.Refused why ≡ Verdict.Clean = sym (walk-bad s at h q) ∙ c in
-    let z : _≡_ {A = ℕ} 0 1 = cc in
-    omega arith
+pub not-bad : {G : Type 0} (s : List ℕ) (at : ℕ) {why : Refusal} → Clean s at → at < length s → readItem s at ≡ ItemRead.Refused why → G
+not-bad s at {why} c h q = let e : Verdict.Refused why ≡ Verdict.Clean = sym (walk-bad s at h q) ∙ c in never (cc)
+
+-- what holds at the end, and at an item where it holds at the next place, holds all along a clean walk
+module _ (s : List ℕ) (P : ℕ → Type 0) (end : (at : ℕ) → at ≡ length s → P at)
+    (item : (at : ℕ) (it : Item) (start len next : ℕ) → at < length s → readItem s at ≡ ItemRead.Got it start len next → P next → P at) where
+  climb : (n at : ℕ) → at ≤ length s → length s ≤ at + n → Clean s at → P at
+  climb zero at h f c = end at (omega arith)
+  climb (suc n) at h f c = go (λ next. climb n next) (ltb at (length s)) refl (readItem s at) refl
+    where
+      go : ((next : ℕ) → next ≤ length s → length s ≤ next + n → Clean s next → P next)
+          → (t : Bool) → ltb at (length s) ≡ t → (r : ItemRead) → readItem s at ≡ r → P at
+      go on false e r q = let k : length s ≤ at = ltb-false at (length s) e in end at (omega arith)
+      go on true e (ItemRead.Refused why) q = not-bad s at c (ltb-true at (length s) e) q
+      go on true e (ItemRead.Got it start len next) q =
+          let k : at < length s = ltb-true at (length s) e in
+          let r = read-room s at q in
+          item at it start len next k q (on next (r .1) (omega arith) (sym (walk-item s at k q) ∙ c))
+
+  pub all-along : (at : ℕ) → at ≤ length s → Clean s at → P at
+  all-along at h c = climb (length s) at h (omega arith) c
 
 -- the items from `at` on are still to be laid out
 pub record Left (s : List ℕ) (first : ℕ) (l out : List ℕ) (at : ℕ) : Type 0 where
@@ -91,42 +108,22 @@ accepted s {h} e = go (readHeader s) refl (walkOf s 14) refl
         let f : Judged.Frame x ≡ Judged.Frame h = sym (simp (q, v)) ∙ e in
         let g : x ≡ h = cc in
         (q ∙ ap HeaderRead.Got g, v)
-    go (HeaderRead.Got x) q (Verdict.Refused why) v =
-        let f : Judged.Refused why ≡ Judged.Frame h = sym (simp (q, v)) ∙ e in
-        let z : _≡_ {A = ℕ} 0 1 = cc in
-        let w : ⊥ = omega arith in absurd w
-    go (HeaderRead.Refused why) q w v =
-        let f : Judged.Refused why ≡ Judged.Frame h = sym (simp q) ∙ e in
-        let z : _≡_ {A = ℕ} 0 1 = cc in
-        let w : ⊥ = omega arith in absurd w
+    go (HeaderRead.Got x) q (Verdict.Refused why) v = let f : Judged.Refused why ≡ Judged.Frame h = sym (simp (q, v)) ∙ e in never (cc)
+    go (HeaderRead.Refused why) q w v = let f : Judged.Refused why ≡ Judged.Frame h = sym (simp q) ∙ e in never (cc)
 
 -- the items of a clean walk are as long as the bytes they were read from
 module _ (s : List ℕ) (b : Bytes s) where
-  pub body-length : (n at : ℕ) → at ≤ length s → length s ≤ at + n → Clean s at → at + length (body (itemsOf s at)) ≡ length s
-  body-length zero at h f c =
-      let i : itemsOf s at ≡ [] = items-end s at (omega arith) in
-      rw i (omega arith)
-  body-length (suc n) at h f c = go (λ next. body-length n next) (ltb at (length s)) refl (readItem s at) refl
-    where
-      go : ((next : ℕ) → next ≤ length s → length s ≤ next + n → Clean s next → next + length (body (itemsOf s next)) ≡ length s)
-          → (t : Bool) → ltb at (length s) ≡ t → (r : ItemRead) → readItem s at ≡ r → at + length (body (itemsOf s at)) ≡ length s
-      go on false e r q =
-          let k : length s ≤ at = ltb-false at (length s) e in
-          let i : itemsOf s at ≡ [] = items-end s at (omega arith) in
-          rw i (omega arith)
-      go on true e (ItemRead.Refused why) q = absurd (not-bad s at c (ltb-true at (length s) e) q)
-      go on true e (ItemRead.Got it start len next) q =
-          let k : at < length s = ltb-true at (length s) e in
-          let r = read-room s at q in
-          let o = item-forth s at b q in
-          let x = on next (r .1) (omega arith) (sym (walk-item s at k q) ∙ c) in
-          let y = o .ends in
-          rw (items-item s at k q, length-append) (omega arith)
+  pub body-length : (at : ℕ) → at ≤ length s → Clean s at → at + length (body (itemsOf s at)) ≡ length s
+  body-length =
+      all-along s (λ at. at + length (body (itemsOf s at)) ≡ length s) (λ at e. rw (items-end s at e) (omega arith))
+      (λ at it start len next k q x.
+      let y = item-forth s at b q .ends in
+      rw (items-item s at k q, length-append) (omega arith))
 
   pub laid-length : {h : Header} → readHeader s ≡ HeaderRead.Got h → Clean s 14 → length (body (itemsOf s 14)) ≡ h .length
   laid-length {h} e c =
       let l = header-got s e .long in
-      let x = body-length (length s) 14 l (omega arith) c in
+      let x = body-length 14 l c in
       let f = header-forth s b e in
       let r = f .size in
       omega arith

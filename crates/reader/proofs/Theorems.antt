@@ -1,13 +1,13 @@
 -- Demand 2 for frames as byte strings. Assumes nothing.
 use Prim.Native.Nat.{ℕ, zero, suc, _+_, _-_, _≤_, _<_}
 use mathlib.Core.Path.{_≡_, refl, sym, _∙_, ap}
-use mathlib.Core.Bool.{Bool, true, false, _||_}
+use mathlib.Core.Bool.{Bool, true, _||_}
 use mathlib.Core.List.{List, [], _∷_, _++_, append-nil}
 use native.Mathlib.Omega.{arith}
 use lib.ListN.{length, take, drop, length-append, take-append-drop}
-use lib.Dec.{ltb, eqb}
+use lib.Dec.{eqb}
 use lib.Seq.{drop-length, drop-drop}
-use borrow.Author.Tests.{ltb-true, ltb-false, eq-eqb, ne-eqb}
+use borrow.Author.Tests.{eq-eqb, ne-eqb}
 use Rattle.codec.specs.Number.{Bytes}
 use Rattle.codec.specs.Time.{recoveredOf}
 use Rattle.codec.specs.Item.{encode}
@@ -28,7 +28,7 @@ use Rattle.codec.proofs.BoolLaws.{or-true, or-false}
 use Rattle.codec.proofs.NumberLaws.{word-is}
 use Rattle.codec.proofs.HeaderLaws.{header-length}
 use Rattle.reader.proofs.AlongLaws.{walk-end, walk-item, items-end, items-item, starts-item, starts-here, starts-last}
-use Rattle.reader.proofs.FrameLaws.{accepted, not-bad, laid-length, body-length}
+use Rattle.reader.proofs.FrameLaws.{accepted, all-along, laid-length, body-length}
 use Rattle.reader.specs.declared.frame.Judged.{Judged}
 use Rattle.reader.specs.declared.frame.Judged.the-variants as Judged
 use Rattle.reader.specs.declared.frame.Verdict.{Verdict}
@@ -40,31 +40,17 @@ use Rattle.reader.specs.Listing.{stepping, listing, placesOf, among, Fra
 
 -- the bytes from a place on are the layout of the items read there, and each item is valid
 module _ (s : List ℕ) (b : Bytes s) where
-  body-is : (n at : ℕ) → at ≤ length s → length s ≤ at + n → Clean s at → (drop at s ≡ body (itemsOf s at)) × AllValid (itemsOf s at)
-  body-is zero at h f c = last at (omega arith)
-    where
-      last : (x : ℕ) → x ≡ length s → (drop x s ≡ body (itemsOf s x)) × AllValid (itemsOf s x)
-      last x e = rw (items-end s x e) (ap (λ (k : ℕ). drop k s) e ∙ drop-length s, tt)
-  body-is (suc n) at h f c = go (λ next. body-is n next) (ltb at (length s)) refl (readItem s at) refl
-    where
-      go : ((next : ℕ) → next ≤ length s → length s ≤ next + n → Clean s next → (drop next s ≡ body (itemsOf s next)) × AllValid (itemsOf s next))
-          → (t : Bool) → ltb at (length s) ≡ t → (r : ItemRead) → readItem s at ≡ r → (drop at s ≡ body (itemsOf s at)) × AllValid (itemsOf s at)
-      go on false e r q =
-          let k : length s ≤ at = ltb-false at (length s) e in
-          let m : at ≡ length s = omega arith in
-          rw (items-end s at m) (ap (λ (x : ℕ). drop x s) m ∙ drop-length s, tt)
-      go on true e (ItemRead.Refused why) q = absurd (not-bad s at c (ltb-true at (length s) e) q)
-      go on true e (ItemRead.Got it start len next) q =
-          let k : at < length s = ltb-true at (length s) e in
-          let r = read-room s at q in
-          let o = item-forth s at b q in
-          let x = on next (r .1) (omega arith) (sym (walk-item s at k q) ∙ c) in
-          let y : take (length (encode it (bytesAt s start len))) (drop at s) ≡ encode it (bytesAt s start len) = part-back (o .stands) in
-          let d : drop (length (encode it (bytesAt s start len))) (drop at s) ≡ drop next s
-          = drop-drop (length (encode it (bytesAt s start len))) at s ∙ ap (λ (k : ℕ). drop k s) (sym (o .ends)) in
-          let j : drop at s ≡ encode it (bytesAt s start len) ++ body (itemsOf s next)
-          = sym (take-append-drop (length (encode it (bytesAt s start len))) (drop at s)) ∙ rw (y, d, x .0) in
-          rw (items-item s at k q) (j, (o .valid, x .1))
+  body-is : (at : ℕ) → at ≤ length s → Clean s at → (drop at s ≡ body (itemsOf s at)) × AllValid (itemsOf s at)
+  body-is =
+      all-along s (λ at. (drop at s ≡ body (itemsOf s at)) × AllValid (itemsOf s at))
+      (λ at e. rw (items-end s at e) (ap (λ (k : ℕ). drop k s) e ∙ drop-length s, tt))
+      (λ at it start len next k q x.
+      let o = item-forth s at b q in
+      let n : ℕ = length (encode it (bytesAt s start len)) in
+      let y : take n (drop at s) ≡ encode it (bytesAt s start len) = part-back (o .stands) in
+      let d : drop n (drop at s) ≡ drop next s = drop-drop n at s ∙ ap (λ (k : ℕ). drop k s) (sym (o .ends)) in
+      let j : drop at s ≡ encode it (bytesAt s start len) ++ body (itemsOf s next) = sym (take-append-drop n (drop at s)) ∙ rw (y, d, x .0) in
+      rw (items-item s at k q) (j, (o .valid, x .1)))
 
   -- what is accepted is a frame of the layout
   pub accepts : {h : Header} → judgeOf s ≡ Judged.Frame h → Framed s h (itemsOf s 14)
@@ -73,7 +59,7 @@ module _ (s : List ℕ) (b : Bytes s) where
       let a = accepted s j in
       let v = header-forth s b (a .0) in
       let g = header-got s (a .0) .long in
-      let x = body-is (length s) 14 g (omega arith) (a .1) in
+      let x = body-is 14 g (a .1) in
       let n = laid-length s b (a .0) (a .1) in
       let t : s ≡ headerBytes h ++ body (itemsOf s 14) = sym (take-append-drop 14 s) ∙ rw (v .bytes, x .0) in
       record {
@@ -193,67 +179,52 @@ module _ (s : List ℕ) (b : Bytes s) {h : Header} (j : judgeOf s ≡ Judged.Fra
   abbrev Reach : ℕ → Type 0
   Reach at = (p : ℕ) → startsOf s p at ≡ true → startsOf s p 14 ≡ true
 
-  steps : (n at : ℕ) → at ≤ length s → length s ≤ at + n → Clean s at → Reach at → stepping n s at ≡ listing (h .time) at (itemsOf s at)
+  abbrev Stepwise : ℕ → Type 0
+  Stepwise at = (n : ℕ) → length s ≤ at + n → Reach at → stepping n s at ≡ listing (h .time) at (itemsOf s at)
+
+  steps-end : (at : ℕ) → at ≡ length s → Stepwise at
   unfolding stepping
-  steps zero at l f c r = rw (items-end s at (omega arith))
-  steps (suc n) at l f c r = go (λ next. steps n next) (ltb at (length s)) refl (readItem s at) refl
-    where
-      go : ((next : ℕ) → next ≤ length s → length s ≤ next + n → Clean s next → Reach next → stepping n s next ≡ listing (h .time) next (itemsOf s next))
-          → (t : Bool) → ltb at (length s) ≡ t → (x : ItemRead) → readItem s at ≡ x → stepping (suc n) s at ≡ listing (h .time) at (itemsOf s at)
-      go on false e x q =
-          let k : length s ≤ at = ltb-false at (length s) e in
-          let m : at ≡ length s = omega arith in
-          let g : stepOf s at ≡ Stepped.End = step-at at (r at (starts-last s at at m ∙ eq-eqb at at refl)) ∙ end-at at m in
-          rw (items-end s at m) (simp g)
-      go on true e (ItemRead.Refused why) q = absurd (not-bad s at c (ltb-true at (length s) e) q)
-      go on true e (ItemRead.Got it start len next) q =
-          let k : at < length s = ltb-true at (length s) e in
-          let z = read-room s at q in
-          let o = item-forth s at b q in
-          let st : startsOf s at 14 ≡ true = r at (starts-here s at at k refl q) in
-          let g : stepOf s at ≡ Stepped.Item next (recoveredOf (h .time) (it .offset .0)) it len = step-at at st ∙ read-at at k q in
-          let p : payloadOf s at ≡ bytesAt s start len = payload-is at st ∙ load-at at q in
-          let y = on next (z .1) (omega arith) (sym (walk-item s at k q) ∙ c) (λ p v. r p (starts-item s p at k q ∙ rw v (or-true (eqb at p)))) in
-          rw (items-item s at k q, ← o .ends, ← y) (simp (g, p))
+  steps-end at m zero f r = rw (items-end s at m)
+  steps-end at m (suc n) f r =
+      let g : stepOf s at ≡ Stepped.End = step-at at (r at (starts-last s at at m ∙ eq-eqb at at refl)) ∙ end-at at m in
+      rw (items-end s at m) (simp g)
+
+  steps-item : (at : ℕ) (it : Item) (start len next : ℕ) → at < length s → readItem s at ≡ ItemRead.Got it start len next → Stepwise next → Stepwise at
+  unfolding stepping
+  steps-item at it start len next k q x zero f r = let w : ⊥ = omega arith in absurd w
+  steps-item at it start len next k q x (suc n) f r =
+      let z = read-room s at q in
+      let o = item-forth s at b q in
+      let st : startsOf s at 14 ≡ true = r at (starts-here s at at k refl q) in
+      let g : stepOf s at ≡ Stepped.Item next (recoveredOf (h .time) (it .offset .0)) it len = step-at at st ∙ read-at at k q in
+      let p : payloadOf s at ≡ bytesAt s start len = payload-is at st ∙ load-at at q in
+      let y = x n (omega arith) (λ p v. r p (starts-item s p at k q ∙ rw v (or-true (eqb at p)))) in
+      rw (items-item s at k q, ← o .ends, ← y) (simp (g, p))
 
   -- the items that stepping from place 14 yields are the frame's, each once, with its recovered time
   pub steps-yield : stepping (length s) s 14 ≡ listing (h .time) 14 (itemsOf s 14)
   steps-yield =
       let a = accepted s j in
-      steps (length s) 14 (header-got s (a .0) .long) (omega arith) (a .1) (λ p e. e)
+      all-along s Stepwise steps-end steps-item 14 (header-got s (a .0) .long) (a .1) (length s) (omega arith) (λ p e. e)
 
   -- the chain of places ends at the end of the frame, which says so
   pub chain-ends : 14 + length (body (itemsOf s 14)) ≡ length s
   chain-ends =
       let a = accepted s j in
-      body-length s b (length s) 14 (header-got s (a .0) .long) (omega arith) (a .1)
+      body-length s b 14 (header-got s (a .0) .long) (a .1)
 
   -- the places that are taken are those of the items and the end, and no others
-  starts-at : (n at : ℕ) (p : ℕ) → at ≤ length s → length s ≤ at + n → Clean s at → startsOf s p at ≡ among p (placesOf at (itemsOf s at))
-  starts-at zero at p l f c = here at p (omega arith)
-    where
-      here : (x p : ℕ) → x ≡ length s → startsOf s p x ≡ among p (placesOf x (itemsOf s x))
-      here x p m = starts-last s p x m ∙ rw (items-end s x m) (sym (or-false (eqb x p)))
-  starts-at (suc n) at p l f c = go (λ next. starts-at n next p) (ltb at (length s)) refl (readItem s at) refl
-    where
-      go : ((next : ℕ) → next ≤ length s → length s ≤ next + n → Clean s next → startsOf s p next ≡ among p (placesOf next (itemsOf s next)))
-          → (t : Bool) → ltb at (length s) ≡ t → (x : ItemRead) → readItem s at ≡ x → startsOf s p at ≡ among p (placesOf at (itemsOf s at))
-      go on false e x q =
-          let k : length s ≤ at = ltb-false at (length s) e in
-          let m : at ≡ length s = omega arith in
-          starts-last s p at m ∙ rw (items-end s at m) (sym (or-false (eqb at p)))
-      go on true e (ItemRead.Refused why) q = absurd (not-bad s at c (ltb-true at (length s) e) q)
-      go on true e (ItemRead.Got it start len next) q =
-          let k : at < length s = ltb-true at (length s) e in
-          let z = read-room s at q in
-          let o = item-forth s at b q in
-          starts-item s p at k q
-          ∙ rw (items-item s at k q, ← o .ends) (ap (λ (w : Bool). eqb at p || w) (on next (z .1) (omega arith) (sym (walk-item s at k q) ∙ c)))
+  starts-at : (p at : ℕ) → at ≤ length s → Clean s at → startsOf s p at ≡ among p (placesOf at (itemsOf s at))
+  starts-at p =
+      all-along s (λ at. startsOf s p at ≡ among p (placesOf at (itemsOf s at)))
+      (λ at m. starts-last s p at m ∙ rw (items-end s at m) (sym (or-false (eqb at p))))
+      (λ at it start len next k q x.
+      starts-item s p at k q ∙ rw (items-item s at k q, ← item-forth s at b q .ends) (ap (λ (w : Bool). eqb at p || w) x))
 
   pub starts-exactly : (p : ℕ) → startsOf s p 14 ≡ among p (placesOf 14 (itemsOf s 14))
   starts-exactly p =
       let a = accepted s j in
-      starts-at (length s) 14 p (header-got s (a .0) .long) (omega arith) (a .1)
+      starts-at p 14 (header-got s (a .0) .long) (a .1)
 
   -- the last of them is the end of the frame, which says so
   pub end-says : stepOf s (length s) ≡ Stepped.End

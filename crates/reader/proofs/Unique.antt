@@ -2,6 +2,8 @@
 use mathlib.Core.Path.{_≡_, sym, _∙_}
 use denote.Ref.{now}
 use Rattle.reader.proofs.frame.judge.Reads as judge
+use Rattle.reader.proofs.frame.judged_refusal.Reads as judged-refusal
+use Rattle.reader.proofs.frame.item_refusal.Reads as item-refusal
 use Rattle.reader.proofs.place.step.Reads as step
 use Rattle.reader.proofs.place.item_at.Reads as item-at
 use Rattle.reader.proofs.place.payload.Reads as payload
@@ -45,3 +47,9 @@ rewritten-number-unique κs a r r′ x x′ p q = p ∙ sym q
 
 pub rewritten-length-unique : (κs : _) (a : _) (r r′ : _) (x x′ : _) → rewritten-length.Post κs a r x → rewritten-length.Post κs a r′ x′ → r ≡ r′
 rewritten-length-unique κs a r r′ x x′ p q = p ∙ sym q
+
+pub item-refusal-unique : (κs : _) (a : _) (r r′ : _) (x x′ : _) → item-refusal.Post κs a r x → item-refusal.Post κs a r′ x′ → r ≡ r′
+item-refusal-unique κs a r r′ x x′ p q = p ∙ sym q
+
+pub judged-refusal-unique : (κs : _) (a : _) (r r′ : _) (x x′ : _) → judged-refusal.Post κs a r x → judged-refusal.Post κs a r′ x′ → r ≡ r′
+judged-refusal-unique κs a r r′ x x′ p q = p ∙ sym q

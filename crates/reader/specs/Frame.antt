@@ -60,18 +60,23 @@ itemsOf s at =
 abbrev pub Clean : List ℕ → ℕ → Type 0
 Clean s at = walkOf s at ≡ Verdict.Clean
 
--- a refusal goes straight up; nothing asks this of an answer that is none
-abbrev pub whyHeader : HeaderRead → Judged
-whyHeader (HeaderRead.Got h) = Judged.Frame h
-whyHeader (HeaderRead.Refused why) = Judged.Refused why
+-- the refusal in an answer that is one; nothing asks this of an answer that is none
+abbrev pub headerRefusal : HeaderRead → Refusal
+headerRefusal (HeaderRead.Got h) = Refusal.Short
+headerRefusal (HeaderRead.Refused why) = why
 
-abbrev pub whyWalk : Header → Verdict → Judged
-whyWalk h Verdict.Clean = Judged.Frame h
-whyWalk h (Verdict.Refused why) = Judged.Refused why
+abbrev pub itemRefusal : ItemRead → Refusal
+itemRefusal (ItemRead.Got item start len next) = Refusal.Missing
+itemRefusal (ItemRead.Refused why) = why
 
-abbrev pub whyRead : ItemRead → Verdict
-whyRead (ItemRead.Got item start len next) = Verdict.Clean
-whyRead (ItemRead.Refused why) = Verdict.Refused why
+abbrev pub judgedRefusal : Judged → Refusal
+judgedRefusal (Judged.Frame h) = Refusal.Short
+judgedRefusal (Judged.Refused why) = why
+
+-- the verdict on the items, after the header was good
+abbrev pub judgedBy : Header → Verdict → Judged
+judgedBy h Verdict.Clean = Judged.Frame h
+judgedBy h (Verdict.Refused why) = Judged.Refused why
 
 abbrev pub openHeader : HeaderRead → (Header → Judged) → Judged
 openHeader (HeaderRead.Got h) k = k h
@@ -79,15 +84,11 @@ openHeader (HeaderRead.Refused why) k = Judged.Refused why
 
 -- the header first, then the items from place 14
 unfoldable pub judgeOf : List ℕ → Judged
-judgeOf s = openHeader (readHeader s) (λ h. whyWalk h (walkOf s 14))
+judgeOf s = openHeader (readHeader s) (λ h. judgedBy h (walkOf s 14))
 
 -- the header time
 unfoldable pub timeIn : List ℕ → Time
 timeIn s = record { sec = wordAt 6 s 2; nano = wordAt 4 s 8 }
-
-abbrev pub whyAt : ItemRead → Stepped
-whyAt (ItemRead.Got item start len next) = Stepped.End
-whyAt (ItemRead.Refused why) = Stepped.Refused why
 
 -- what stands at a place, the frame not judged: the end, or the item with its recovered time
 unfoldable pub itemAtOf : List ℕ → ℕ → Stepped
@@ -105,10 +106,6 @@ abbrev pub openJudged : {A : Type 0} → Judged → (Header → A) → (Refusal 
 openJudged (Judged.Frame h) k z = k h
 openJudged (Judged.Refused why) k z = z why
 
-abbrev pub whyJudged : Judged → Stepped
-whyJudged (Judged.Frame h) = Stepped.End
-whyJudged (Judged.Refused why) = Stepped.Refused why
-
 -- 20 to 29, then 30 for a place that neither starts an item nor is the end
 unfoldable pub stepOf : List ℕ → ℕ → Stepped
 stepOf s place = openJudged (judgeOf s) (λ h. pick (startsOf s place 14) (itemAtOf s place) (Stepped.Refused Refusal.Place)) Stepped.Refused
@@ -119,10 +116,6 @@ heldOf s place = openJudged (judgeOf s) (λ h. startsOf s place 14) (λ why. fal
 -- the end, an item without payload, or a refusal shows an empty part
 unfoldable pub payloadOf : List ℕ → ℕ → List ℕ
 payloadOf s place = pick (heldOf s place) (payloadAtOf s place) []
-
-abbrev pub whyRefused : Judged → Rewritten
-whyRefused (Judged.Frame h) = Rewritten.Small
-whyRefused (Judged.Refused why) = Rewritten.Refused why
 
 -- the yielded header and items laid out again
 unfoldable pub laidOut : List ℕ → Header → List ℕ

@@ -8,21 +8,12 @@ ghost use Prim.Native.Nat.{_≤_};
 ghost use lib.ListN.{length};
 ghost use Rattle.codec.specs.Number.{over};
 ghost use Rattle.codec.specs.Layout.{body};
-ghost use Rattle.reader.specs.Frame.{Clean, itemsOf, rewrittenOf, rewriteOf, whyRefused};
+ghost use Rattle.reader.specs.Frame.{Clean, itemsOf, rewrittenOf, rewriteOf};
 
 pub enum Rewritten {
     Done(usize),
     Small,
     Refused(Refusal),
-}
-
-fn why_refused(r: Judged) -> Rewritten
-    ensures { λ x. ⌜ x ≡ whyRefused r ⌝ }
-{
-    match r {
-        Judged::Frame(_) => Rewritten::Small,
-        Judged::Refused(why) => Rewritten::Refused(why),
-    }
 }
 
 fn rewrite_items(frame: &[u8], first: usize, out: &mut [u8])
@@ -53,7 +44,7 @@ pub fn rewrite(frame: &[u8], out: &mut [u8]) -> Rewritten
 {
     let judged = crate::frame::judge(frame);
     let Judged::Frame(h) = judged else {
-        return why_refused(judged);
+        return Rewritten::Refused(crate::frame::judged_refusal(judged));
     };
     if out.len() < frame.len() {
         return Rewritten::Small;

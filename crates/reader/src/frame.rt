@@ -6,7 +6,7 @@ use codec::refusal::Refusal;
 ghost use mathlib.Core.Path.{_≡_};
 ghost use Prim.Native.Nat.{_≤_};
 ghost use lib.ListN.{length};
-ghost use Rattle.reader.specs.Frame.{judgeOf, walkOf, whyHeader, whyWalk, whyRead};
+ghost use Rattle.reader.specs.Frame.{judgeOf, walkOf, headerRefusal, itemRefusal, judgedRefusal, judgedBy};
 
 pub enum Judged {
     Frame(Header),
@@ -18,26 +18,18 @@ enum Verdict {
     Refused(Refusal),
 }
 
-fn why_header(r: HeaderRead) -> Judged
-    ensures { λ x. ⌜ x ≡ whyHeader r ⌝ }
+// The refusal in an answer that is one: a `let .. else` cannot bind it.
+fn header_refusal(r: HeaderRead) -> Refusal
+    ensures { λ x. ⌜ x ≡ headerRefusal r ⌝ }
 {
     match r {
-        HeaderRead::Got(h) => Judged::Frame(h),
-        HeaderRead::Refused(why) => Judged::Refused(why),
+        HeaderRead::Got(_) => Refusal::Short,
+        HeaderRead::Refused(why) => why,
     }
 }
 
-fn why_walk(r: Verdict, h: Header) -> Judged
-    ensures { λ x. ⌜ x ≡ whyWalk h r ⌝ }
-{
-    match r {
-        Verdict::Clean => Judged::Frame(h),
-        Verdict::Refused(why) => Judged::Refused(why),
-    }
-}
-
-fn why_read(r: ItemRead) -> Verdict
-    ensures { λ x. ⌜ x ≡ whyRead r ⌝ }
+pub fn item_refusal(r: ItemRead) -> Refusal
+    ensures { λ x. ⌜ x ≡ itemRefusal r ⌝ }
 {
     match r {
         ItemRead::Got {
@@ -45,8 +37,26 @@ fn why_read(r: ItemRead) -> Verdict
             start: _,
             len: _,
             next: _,
-        } => Verdict::Clean,
-        ItemRead::Refused(why) => Verdict::Refused(why),
+        } => Refusal::Missing,
+        ItemRead::Refused(why) => why,
+    }
+}
+
+pub fn judged_refusal(r: Judged) -> Refusal
+    ensures { λ x. ⌜ x ≡ judgedRefusal r ⌝ }
+{
+    match r {
+        Judged::Frame(_) => Refusal::Short,
+        Judged::Refused(why) => why,
+    }
+}
+
+fn judged_by(r: Verdict, h: Header) -> Judged
+    ensures { λ x. ⌜ x ≡ judgedBy h r ⌝ }
+{
+    match r {
+        Verdict::Clean => Judged::Frame(h),
+        Verdict::Refused(why) => Judged::Refused(why),
     }
 }
 
@@ -65,7 +75,7 @@ fn walk(frame: &[u8], first: usize) -> Verdict
             next,
         } = read
         else {
-            return why_read(read);
+            return Verdict::Refused(item_refusal(read));
         };
         at = next;
     }
@@ -77,7 +87,7 @@ pub fn judge(frame: &[u8]) -> Judged
 {
     let read = codec::header::read_header(frame);
     let HeaderRead::Got(h) = read else {
-        return why_header(read);
+        return Judged::Refused(header_refusal(read));
     };
-    why_walk(walk(frame, 14), h)
+    judged_by(walk(frame, 14), h)
 }

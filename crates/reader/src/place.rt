@@ -7,7 +7,7 @@ use codec::time::Time;
 ghost use mathlib.Core.Path.{_≡_};
 ghost use Prim.Native.Nat.{_≤_};
 ghost use lib.ListN.{length};
-ghost use Rattle.reader.specs.Frame.{timeIn, startsOf, heldOf, itemAtOf, payloadAtOf, stepOf, payloadOf, whyJudged, whyAt};
+ghost use Rattle.reader.specs.Frame.{timeIn, startsOf, heldOf, itemAtOf, payloadAtOf, stepOf, payloadOf};
 
 pub enum Stepped {
     Item {
@@ -30,20 +30,6 @@ fn time_in(frame: &[u8]) -> Time
     }
 }
 
-fn why_at(r: ItemRead) -> Stepped
-    ensures { λ x. ⌜ x ≡ whyAt r ⌝ }
-{
-    match r {
-        ItemRead::Got {
-            item: _,
-            start: _,
-            len: _,
-            next: _,
-        } => Stepped::End,
-        ItemRead::Refused(why) => Stepped::Refused(why),
-    }
-}
-
 // Reads at a place without judging the frame: for a listing that judged it once.
 pub fn item_at(frame: &[u8], place: usize) -> Stepped
     ensures { λ r. ⌜ r ≡ itemAtOf (now (frame .entry)) place ⌝ }
@@ -59,7 +45,7 @@ pub fn item_at(frame: &[u8], place: usize) -> Stepped
         next,
     } = read
     else {
-        return why_at(read);
+        return Stepped::Refused(crate::frame::item_refusal(read));
     };
     let offset = item.offset;
     Stepped::Item {
@@ -109,21 +95,12 @@ fn starts(frame: &[u8], first: usize, place: usize) -> bool
     at == place
 }
 
-fn why_judged(r: Judged) -> Stepped
-    ensures { λ x. ⌜ x ≡ whyJudged r ⌝ }
-{
-    match r {
-        Judged::Frame(_) => Stepped::End,
-        Judged::Refused(why) => Stepped::Refused(why),
-    }
-}
-
 pub fn step(frame: &[u8], place: usize) -> Stepped
     ensures { λ r. ⌜ r ≡ stepOf (now (frame .entry)) place ⌝ }
 {
     let judged = crate::frame::judge(frame);
     let Judged::Frame(_) = judged else {
-        return why_judged(judged);
+        return Stepped::Refused(crate::frame::judged_refusal(judged));
     };
     if starts(frame, 14, place) {
         item_at(frame, place)

@@ -12,6 +12,7 @@ use Rattle.codec.specs.Number.{over, Wrote}
 use Rattle.codec.specs.declared.number.Put.{Put}
 use Rattle.codec.specs.declared.number.Put.the-variants as Put
 use Rattle.codec.proofs.NumberLaws.{hit, kept, chain, chain-put, from-laid, length-over}
+use Rattle.codec.proofs.Opened.{never}
 use borrow.Author.Tests.{ne-eqb, eqb-true}
 use Rattle.text.specs.Put.{decimalOf, hexOf}
 use Rattle.text.proofs.PutLaws.{hexes-length}
@@ -38,11 +39,8 @@ module _ {l : List ℕ} {at : ℕ} {bs l' : List ℕ} {p : Put} (k : ℕ) (w : W
       let z : at + length bs ≡ n = cc in
       rw (← z) (short-put k w room m)
 
-  pub put-nothing : p ≡ Put.Nothing → ⊥
-  put-nothing e =
-      let q : Put.Next (at + length bs) ≡ Put.Nothing = sym (next-is w room) ∙ e in
-      let z : _≡_ {A = ℕ} 0 1 = cc in
-      omega arith
+  pub put-nothing : {G : Type 0} → p ≡ Put.Nothing → G
+  put-nothing e = let q : Put.Next (at + length bs) ≡ Put.Nothing = sym (next-is w room) ∙ e in never (cc)
 
 -- one after the other
 pub short-then : {j n : ℕ} {l : List ℕ} {at : ℕ} {xs ys m l' : List ℕ} {k r : ℕ} → Short j l at xs m k → Short n m k ys l' r → Short (j + n) l at (xs ++ ys) l' r

@@ -22,26 +22,23 @@ aloneOf name = pick (sameOf name (110 ∷ 101 ∷ 119 ∷ [])) Call.New Call.Bad
 unfoldable pub framedOf : List ℕ → Call
 framedOf name = pick (sameOf name (114 ∷ 101 ∷ 97 ∷ 100 ∷ [])) Call.Read Call.Bad
 
--- a place of 64 bits; a size of at most 70,000
-unfoldable pub stepOf : List ℕ → Call
-stepOf word = openNumber (numberOf word 18446744073709551615) Call.Step
+-- rewrite SIZE BYTES, the size at most 70,000
+unfoldable pub sizedOf : List ℕ → Call
+sizedOf word = openNumber (numberOf word 70000) Call.Rewrite
 
-unfoldable pub payloadOf : List ℕ → Call
-payloadOf word = openNumber (numberOf word 18446744073709551615) Call.Payload
-
-unfoldable pub rewriteOf : List ℕ → Call
-rewriteOf word = openNumber (numberOf word 70000) Call.Rewrite
-
--- step PLACE BYTES, payload PLACE BYTES, rewrite SIZE BYTES
+-- step PLACE BYTES, payload PLACE BYTES, the place of 64 bits
 unfoldable pub placedOf : List ℕ → List ℕ → Call
 placedOf name word =
-    pick (sameOf name (115 ∷ 116 ∷ 101 ∷ 112 ∷ [])) (stepOf word)
-    (pick (sameOf name (112 ∷ 97 ∷ 121 ∷ 108 ∷ 111 ∷ 97 ∷ 100 ∷ [])) (payloadOf word)
-    (pick (sameOf name (114 ∷ 101 ∷ 119 ∷ 114 ∷ 105 ∷ 116 ∷ 101 ∷ [])) (rewriteOf word) Call.Bad))
+    openNumber (numberOf word 18446744073709551615)
+    (λ place. pick (sameOf name (115 ∷ 116 ∷ 101 ∷ 112 ∷ [])) (Call.Step place)
+    (pick (sameOf name (112 ∷ 97 ∷ 121 ∷ 108 ∷ 111 ∷ 97 ∷ 100 ∷ [])) (Call.Payload place) Call.Bad))
+
+unfoldable pub numberedOf : List ℕ → List ℕ → Call
+numberedOf name word = pick (sameOf name (114 ∷ 101 ∷ 119 ∷ 114 ∷ 105 ∷ 116 ∷ 101 ∷ [])) (sizedOf word) (placedOf name word)
 
 -- the name is the first word; a missing or an extra word makes no call
 unfoldable pub callOf : List ℕ → Call
 callOf line =
     pick (eqb (wordsOf line) 1) (aloneOf (wordOf line 0))
     (pick (eqb (wordsOf line) 2) (framedOf (wordOf line 0))
-    (pick (eqb (wordsOf line) 3) (placedOf (wordOf line 0) (wordOf line 1)) Call.Bad))
+    (pick (eqb (wordsOf line) 3) (numberedOf (wordOf line 0) (wordOf line 1)) Call.Bad))

@@ -1,7 +1,7 @@
 // The call that a line names. Its bytes are read apart, since they go into a buffer.
 use text::number::Number;
 ghost use mathlib.Core.Path.{_≡_};
-ghost use Rattle.script.specs.Call.{aloneOf, framedOf, placedOf, callOf, stepOf, payloadOf, rewriteOf};
+ghost use Rattle.script.specs.Call.{aloneOf, framedOf, sizedOf, placedOf, numberedOf, callOf};
 
 pub enum Call {
     Bad,
@@ -32,27 +32,9 @@ fn framed(name: &[u8]) -> Call
     }
 }
 
-fn step(word: &[u8]) -> Call
-    ensures { λ r. ⌜ r ≡ stepOf (now (word .entry)) ⌝ }
-{
-    let Number::Is(place) = text::number::read(word, 18446744073709551615) else {
-        return Call::Bad;
-    };
-    Call::Step(place)
-}
-
-fn payload(word: &[u8]) -> Call
-    ensures { λ r. ⌜ r ≡ payloadOf (now (word .entry)) ⌝ }
-{
-    let Number::Is(place) = text::number::read(word, 18446744073709551615) else {
-        return Call::Bad;
-    };
-    Call::Payload(place)
-}
-
 // The program lends an output of at most 70,000 bytes.
-fn rewrite(word: &[u8]) -> Call
-    ensures { λ r. ⌜ r ≡ rewriteOf (now (word .entry)) ⌝ }
+fn sized(word: &[u8]) -> Call
+    ensures { λ r. ⌜ r ≡ sizedOf (now (word .entry)) ⌝ }
 {
     let Number::Is(size) = text::number::read(word, 70000) else {
         return Call::Bad;
@@ -63,16 +45,26 @@ fn rewrite(word: &[u8]) -> Call
 fn placed(name: &[u8], word: &[u8]) -> Call
     ensures { λ r. ⌜ r ≡ placedOf (now (name .entry)) (now (word .entry)) ⌝ }
 {
+    let Number::Is(place) = text::number::read(word, 18446744073709551615) else {
+        return Call::Bad;
+    };
     if text::line::same(name, b"step") {
-        return step(word);
+        return Call::Step(place);
     }
     if text::line::same(name, b"payload") {
-        return payload(word);
-    }
-    if text::line::same(name, b"rewrite") {
-        return rewrite(word);
+        return Call::Payload(place);
     }
     Call::Bad
+}
+
+fn numbered(name: &[u8], word: &[u8]) -> Call
+    ensures { λ r. ⌜ r ≡ numberedOf (now (name .entry)) (now (word .entry)) ⌝ }
+{
+    if text::line::same(name, b"rewrite") {
+        sized(word)
+    } else {
+        placed(name, word)
+    }
 }
 
 // The count of words is part of a call: a missing or an extra word makes it none.
@@ -88,7 +80,7 @@ pub fn parse(line: &[u8]) -> Call
         return framed(name);
     }
     if n == 3 {
-        return placed(name, text::line::word(line, 1));
+        return numbered(name, text::line::word(line, 1));
     }
     Call::Bad
 }

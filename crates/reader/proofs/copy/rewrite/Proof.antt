@@ -1,6 +1,7 @@
 use mathlib.Core.Path.{sym, ap, _∙_}
 use denote.Ref.{now}
-use Rattle.reader.specs.Frame.{whyRefused}
+use Rattle.reader.specs.Frame.{judgedRefusal}
+use Rattle.reader.specs.declared.copy.Rewritten.the-variants as Rewritten
 use Rattle.reader.proofs.FrameLaws.{accepted, rewrite-done, rewrite-small, rewrite-refused}
 use Rattle.codec.proofs.Inverse.{header-got}
 use Rattle.codec.proofs.Stands.{bytes-of}
@@ -17,7 +18,7 @@ rewrite-spec =
     (λ c. search needs)
     (λ c. search needs)
     (λ c κs. search needs)
-    (λ c. let r = rewrite-refused _ _ (sym (c .before .before .before .judge .ensures) ∙ c .before .enum-told .given .1) in (c .why-refused .ensures ∙ ap whyRefused (c .before .enum-told .given .1) ∙ r .0, r .1))
+    (λ c. let r = rewrite-refused _ _ (sym (c .before .before .before .judge .ensures) ∙ c .before .enum-told .given .1) in (ap Rewritten.Refused (c .judged-refusal .ensures ∙ ap judgedRefusal (c .before .enum-told .given .1)) ∙ r .0, r .1))
     (λ c. rewrite-small _ _ (sym (c .before .before .before .before .judge .ensures) ∙ c .before .before .judged .given .1) (c .if1 .taken))
     (λ c κs. search needs)
     (λ c κs. let a = accepted _ (sym (c .before .before .before .before .before .before .before .before .before .judge .ensures) ∙ c .before .before .before .before .before .before .before .judged .given .1) in (header-got _ (a .0) .long, (omega arith, a .1)))

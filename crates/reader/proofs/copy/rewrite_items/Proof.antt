@@ -27,7 +27,7 @@ rewrite-items-spec =
     (λ c. search needs)
     (λ c. search needs)
     (λ c. c .before .before .before .before .loop .inv .len)
-    (λ c. absurd (not-bad _ _ (c .before .before .before .before .loop .inv .clean) (c .before .before .before .loop-test .taken) (sym (c .before .before .read-item .ensures) ∙ c .enum-told .given .1)))
+    (λ c. not-bad _ _ (c .before .before .before .before .loop .inv .clean) (c .before .before .before .loop-test .taken) (sym (c .before .before .read-item .ensures) ∙ c .enum-told .given .1))
     (λ c κs. search needs)
     (λ c κs. search needs)
     (λ c. let r = read-room _ _ (sym (c .before .before .before .before .before .before .before .before .read-item .ensures) ∙ c .before .before .before .before .before .before .item .given .1) in omega arith)

@@ -1,5 +1,6 @@
 use mathlib.Core.Path.{sym, ap, _∙_}
-use Rattle.reader.specs.Frame.{stepOf, whyJudged}
+use Rattle.reader.specs.Frame.{stepOf, judgedRefusal}
+use Rattle.reader.specs.declared.place.Stepped.the-variants as Stepped
 use Rattle.reader.proofs.FrameLaws.{accepted}
 use Rattle.codec.proofs.Inverse.{header-got}
 use borrow.Author.Needs.{needs}
@@ -15,7 +16,7 @@ step-spec =
     (λ c. search needs)
     (λ c. search needs)
     (λ c κs. search needs)
-    (λ c. c .why-judged .ensures ∙ ap whyJudged (c .before .enum-told2 .given .1) ∙ simp (sym (c .before .before .before .judge .ensures) ∙ c .before .enum-told2 .given .1))
+    (λ c. ap Stepped.Refused (c .judged-refusal .ensures ∙ ap judgedRefusal (c .before .enum-told2 .given .1)) ∙ simp (sym (c .before .before .before .judge .ensures) ∙ c .before .enum-told2 .given .1))
     (λ c κs. header-got _ (accepted _ (sym (c .before .before .judge .ensures) ∙ c .enum-told .given .1) .0) .long)
     (λ c κs. search needs)
     (λ c. c .item-at .ensures ∙ simp (sym (c .before .before .before .before .before .judge .ensures) ∙ c .before .before .before .enum-told .given .1, sym (c .before .before .starts .ensures) ∙ c .before .if1 .taken))

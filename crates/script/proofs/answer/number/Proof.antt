@@ -14,4 +14,4 @@ number-spec =
     (λ c. search needs)
     (λ c. put-next 20 (c .before .before .before .before .before .decimal .ensures) (decimal-length _) (c .before .before .before .before .before .before .before .before .pre) (c .before .next .given .1))
     (λ c. search needs)
-    (λ c. absurd (put-nothing 20 (c .before .before .before .before .decimal .ensures) (decimal-length _) (c .before .before .before .before .before .before .before .pre) (c .enum-told .given .1))))
+    (λ c. put-nothing 20 (c .before .before .before .before .decimal .ensures) (decimal-length _) (c .before .before .before .before .before .before .before .pre) (c .enum-told .given .1)))

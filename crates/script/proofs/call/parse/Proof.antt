@@ -18,5 +18,5 @@ parse-spec =
     (λ c. c .framed .ensures ∙ simp (← c .before .before .before .before .words .ensures, ne-eqb _ _ (c .before .before .if1 .left), eq-eqb _ _ (c .before .if2 .taken), c .before .before .before .word .ensures))
     (λ c κs. search needs)
     (λ c κs. search needs)
-    (λ c. c .placed .ensures ∙ simp (← c .before .before .before .before .before .before .words .ensures, ne-eqb _ _ (c .before .before .before .before .if1 .left), ne-eqb _ _ (c .before .before .before .if2 .left), eq-eqb _ _ (c .before .before .if3 .taken), c .before .before .before .before .before .word .ensures, c .before .word2 .ensures))
+    (λ c. c .numbered .ensures ∙ simp (← c .before .before .before .before .before .before .words .ensures, ne-eqb _ _ (c .before .before .before .before .if1 .left), ne-eqb _ _ (c .before .before .before .if2 .left), eq-eqb _ _ (c .before .before .if3 .taken), c .before .before .before .before .before .word .ensures, c .before .word2 .ensures))
     (λ c. simp (← c .before .before .before .before .words .ensures, ne-eqb _ _ (c .before .before .if1 .left), ne-eqb _ _ (c .before .if2 .left), ne-eqb _ _ (c .if3 .left))))

@@ -9,16 +9,14 @@ unfolding placedOf
 placed-spec =
     tie.close
     (tie.spec
+    (λ c κs. search needs)
+    (λ c. search needs)
+    (λ c. search needs)
+    (λ c. simp (sym (c .before .before .read .ensures) ∙ c .enum-told .given .1))
     (λ c. search needs)
     (λ c κs. search needs)
-    (λ c κs. search needs)
-    (λ c. c .step .ensures ∙ simp (sym (c .before .before .same .ensures) ∙ c .before .if1 .taken))
+    (λ c. simp (sym (c .before .before .before .before .before .before .read .ensures) ∙ c .before .before .before .before .place .given .1, sym (c .before .same .ensures) ∙ c .if1 .taken))
     (λ c. search needs)
     (λ c κs. search needs)
-    (λ c κs. search needs)
-    (λ c. c .payload .ensures ∙ simp (sym (c .before .before .before .before .before .same .ensures) ∙ c .before .before .before .before .if1 .left, sym (c .before .before .same2 .ensures) ∙ c .before .if2 .taken))
-    (λ c. search needs)
-    (λ c κs. search needs)
-    (λ c κs. search needs)
-    (λ c. c .rewrite .ensures ∙ simp (sym (c .before .before .before .before .before .before .before .before .same .ensures) ∙ c .before .before .before .before .before .before .before .if1 .left, sym (c .before .before .before .before .before .same2 .ensures) ∙ c .before .before .before .before .if2 .left, sym (c .before .before .same3 .ensures) ∙ c .before .if3 .taken))
-    (λ c. simp (sym (c .before .before .before .before .before .before .before .same .ensures) ∙ c .before .before .before .before .before .before .if1 .left, sym (c .before .before .before .before .same2 .ensures) ∙ c .before .before .before .if2 .left, sym (c .before .same3 .ensures) ∙ c .if3 .left)))
+    (λ c. simp (sym (c .before .before .before .before .before .before .before .before .before .read .ensures) ∙ c .before .before .before .before .before .before .before .place .given .1, sym (c .before .before .before .before .same .ensures) ∙ c .before .before .before .if1 .left, sym (c .before .same2 .ensures) ∙ c .if2 .taken))
+    (λ c. simp (sym (c .before .before .before .before .before .before .before .before .before .read .ensures) ∙ c .before .before .before .before .before .before .before .place .given .1, sym (c .before .before .before .before .same .ensures) ∙ c .before .before .before .if1 .left, sym (c .before .same2 .ensures) ∙ c .if2 .left)))

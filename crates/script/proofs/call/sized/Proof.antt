@@ -1,12 +1,12 @@
 use mathlib.Core.Path.{sym, _∙_}
-use Rattle.script.specs.Call.{rewriteOf}
+use Rattle.script.specs.Call.{sizedOf}
 use borrow.Author.Needs.{needs}
-use Rattle.script.proofs.call.rewrite.Statement.{statement}
-use Rattle.script.proofs.call.rewrite.Tie as tie
+use Rattle.script.proofs.call.sized.Statement.{statement}
+use Rattle.script.proofs.call.sized.Tie as tie
 
-pub rewrite-spec : {M : Type 1} → statement M
-unfolding rewriteOf
-rewrite-spec =
+pub sized-spec : {M : Type 1} → statement M
+unfolding sizedOf
+sized-spec =
     tie.close
     (tie.spec
     (λ c κs. search needs)
