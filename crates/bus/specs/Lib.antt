@@ -1,0 +1,4 @@
+pub mod Filter
+pub mod Source
+pub mod Report
+pub mod Update

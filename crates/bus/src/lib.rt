@@ -1,0 +1,4 @@
+pub mod filter;
+pub mod report;
+pub mod source;
+pub mod update;

@@ -1,0 +1,3 @@
+pub mod FramerLaws
+pub mod KeptLaws
+pub mod Unique

@@ -1,0 +1,9 @@
+use mathlib.Core.Path.{_≡_, refl, sym, ap, _∙_}
+use Rattle.framer.specs.Queue.{emptyQueue}
+use Rattle.framer.proofs.queue.empty_queue.Statement.{statement}
+use Rattle.framer.proofs.queue.empty_queue.Tie as tie
+
+pub empty-queue-spec : {M : Type 1} → statement M
+unfolding emptyQueue
+empty-queue-spec = tie.close (tie.spec
+    (λ c. refl))

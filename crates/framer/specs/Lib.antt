@@ -1,0 +1,3 @@
+pub mod Meter
+pub mod Queue
+pub mod Framer

@@ -1,0 +1,4 @@
+pub mod framer;
+pub mod meter;
+pub mod offer;
+pub mod queue;
