@@ -1,0 +1,6 @@
+pub mod Engine
+pub mod Setup
+pub mod Source
+pub mod Report
+pub mod Tick
+pub mod Take

@@ -1,0 +1,78 @@
+// Reports: 7, 2, 4, 3, 5, 6, 1, 8.
+use crate::engine::Engine;
+use crate::engine::Outcome;
+use bus::report::Report;
+use codec::time::Time;
+ghost use mathlib.Core.Path.{_≡_};
+ghost use mathlib.Core.Bool.{true, false};
+ghost use mathlib.Core.List.{[]};
+ghost use Rattle.bus.specs.Report.{canReport, linReport, flexrayReport};
+ghost use Rattle.mirror.specs.Report.{reportOf};
+
+impl Engine {
+    fn report(mut self, r: Report, payload: &[u8]) -> Outcome
+        ensures { λ o. ⌜ o ≡ reportOf self r (now (payload .entry)) ⌝ }
+    {
+        let m = self.framer.meter;
+        if !crate::engine::sound(self.count, m) {
+            return Outcome {
+                engine: self,
+                answer: 19,
+            };
+        }
+        let k = crate::engine::index(r.source);
+        let s = self.sources[k];
+        let cause = bus::report::report_cause(self.count, m.size, s, r, payload.len());
+        if cause != 0 {
+            return Outcome {
+                engine: self,
+                answer: cause,
+            };
+        }
+        let f = self.framer;
+        self.framer = f.add(r.time, bus::report::offer(s, r), payload);
+        self.sources[k] = bus::report::settle(s, r);
+        Outcome {
+            engine: self,
+            answer: 0,
+        }
+    }
+
+    pub fn can(self, source: u64, time: Time, key: u32, payload: &[u8]) -> Outcome
+        ensures { λ o. ⌜ o ≡ reportOf self (canReport source time key) (now (payload .entry)) ⌝ }
+    {
+        self.report(bus::report::can(source, time, key), payload)
+    }
+
+    pub fn lin(self, source: u64, time: Time, pid: u32, errors: u32, payload: &[u8]) -> Outcome
+        ensures { λ o. ⌜ o ≡ reportOf self (linReport source time pid errors) (now (payload .entry)) ⌝ }
+    {
+        self.report(bus::report::lin(source, time, pid, errors), payload)
+    }
+
+    pub fn flexray(
+        self,
+        source: u64,
+        time: Time,
+        channels: u32,
+        slot: u32,
+        cycle: u32,
+        payload: &[u8],
+    ) -> Outcome
+        ensures { λ o. ⌜ o ≡ reportOf self (flexrayReport source time channels slot cycle true 255 0) (now (payload .entry)) ⌝ }
+    {
+        self.report(
+            bus::report::flexray(source, time, channels, slot, cycle),
+            payload,
+        )
+    }
+
+    pub fn conflict(self, source: u64, time: Time, channels: u32, slot: u32, cycle: u32) -> Outcome
+        ensures { λ o. ⌜ o ≡ reportOf self (flexrayReport source time channels slot cycle false 254 1) [] ⌝ }
+    {
+        self.report(
+            bus::report::conflict(source, time, channels, slot, cycle),
+            b"",
+        )
+    }
+}
