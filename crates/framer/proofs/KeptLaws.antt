@@ -140,7 +140,7 @@ kept-placed m t n s g h f = go (eqb (m .filled) 0) refl
           waiting = s .waiting;
         }
 
-clash : {G : Type 0} → true ≡ false → G
+pub clash : {G : Type 0} → true ≡ false → G
 clash e = never (sym (ap bit e))
 
 -- a frame that stays open is in time and has room for the item

@@ -1,1 +1,4 @@
 pub mod MirrorLaws
+pub mod Kept
+pub mod Refused
+pub mod Unique

@@ -4,3 +4,4 @@ pub mod Source
 pub mod Report
 pub mod Tick
 pub mod Take
+pub mod Call
