@@ -4,14 +4,21 @@ pub const HEADER_LENGTH: usize = 14;
 
 pub const NANOS_PER_SECOND: u64 = 1_000_000_000;
 pub const NANOS_PER_TICK: u64 = 10_000;
+pub const LAST_SECOND: u64 = 281_474_976_710_655;
 
-#[derive(Clone, Copy, Debug, PartialEq)]
+/// Times of a legal nanosecond compare as the clock does: seconds first.
+#[derive(Clone, Copy, Debug, Default, PartialEq, PartialOrd)]
 pub struct Time {
     pub seconds: u64,
     pub nanos: u32,
 }
 
 impl Time {
+    /// Whether a call may name this time.
+    pub fn is_in_range(self) -> bool {
+        self.seconds <= LAST_SECOND && u64::from(self.nanos) < NANOS_PER_SECOND
+    }
+
     /// The last second of a header plus the largest offset needs one second more than 48 bits hold.
     pub fn after_ticks(self, ticks: u16) -> Time {
         let nanos = u64::from(self.nanos) + u64::from(ticks) * NANOS_PER_TICK;
@@ -21,11 +28,19 @@ impl Time {
         }
     }
 
+    /// Nanoseconds since time zero: 64 bits don't hold them.
+    pub fn count(self) -> u128 {
+        u128::from(self.seconds) * u128::from(NANOS_PER_SECOND) + u128::from(self.nanos)
+    }
+
+    /// Nanoseconds since an earlier time.
+    pub fn nanos_since(self, earlier: Time) -> u128 {
+        self.count() - earlier.count()
+    }
+
     /// Whole ticks since an earlier time.
     pub fn ticks_since(self, earlier: Time) -> u128 {
-        let count =
-            |t: Time| u128::from(t.seconds) * u128::from(NANOS_PER_SECOND) + u128::from(t.nanos);
-        (count(self) - count(earlier)) / u128::from(NANOS_PER_TICK)
+        self.nanos_since(earlier) / u128::from(NANOS_PER_TICK)
     }
 }
 
@@ -34,6 +49,14 @@ pub enum Kind {
     Can = 1,
     Lin = 2,
     FlexRay = 3,
+}
+
+impl Kind {
+    pub fn of_number(number: u32) -> Option<Kind> {
+        [Kind::Can, Kind::Lin, Kind::FlexRay]
+            .into_iter()
+            .find(|&kind| kind as u32 == number)
+    }
 }
 
 #[derive(Clone, Copy, Debug, PartialEq)]
@@ -55,6 +78,14 @@ impl Id {
             Id::Can(key) if key & CAN_FD != 0 => 64,
             Id::Can(_) | Id::Lin(_) => 8,
             Id::FlexRay { .. } => 254,
+        }
+    }
+
+    fn length(self) -> usize {
+        match self {
+            Id::Can(_) => 4,
+            Id::Lin(_) => 1,
+            Id::FlexRay { .. } => 3,
         }
     }
 }
@@ -81,6 +112,15 @@ pub struct Item<'a> {
     pub payload: Option<&'a [u8]>,
 }
 
+impl Item<'_> {
+    /// Offset, flags and network id are 4 bytes; a payload has its length before it.
+    pub fn length(&self) -> usize {
+        4 + usize::from(self.state.is_some())
+            + self.id.map_or(0, Id::length)
+            + self.payload.map_or(0, |payload| 1 + payload.len())
+    }
+}
+
 /// An item, the place where it starts and the place after it.
 #[derive(Debug, PartialEq)]
 pub struct Placed<'a> {
@@ -100,7 +140,7 @@ mod tests {
     use super::*;
 
     const LAST: Time = Time {
-        seconds: 281_474_976_710_655,
+        seconds: LAST_SECOND,
         nanos: 999_999_999,
     };
 
@@ -119,6 +159,21 @@ mod tests {
             }
         );
         assert_eq!(later.ticks_since(start), 1);
+    }
+
+    #[test]
+    fn the_last_time_in_range() {
+        assert!(LAST.is_in_range());
+        let too_late = Time {
+            seconds: LAST_SECOND + 1,
+            nanos: 0,
+        };
+        assert!(!too_late.is_in_range());
+        let no_nanosecond = Time {
+            seconds: 0,
+            nanos: 1_000_000_000,
+        };
+        assert!(!no_nanosecond.is_in_range());
     }
 
     #[test]

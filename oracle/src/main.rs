@@ -1,11 +1,19 @@
 //! The second program: it answers the same call scripts as `replay`, and shares no line with it.
 
+mod calls;
+mod cause;
 mod count;
+mod engine;
+mod filter;
 mod frame;
+mod framer;
 mod play;
 mod random;
 mod reader;
+mod report;
 mod script;
+mod source;
+mod state;
 mod text;
 mod writer;
 

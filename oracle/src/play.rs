@@ -1,20 +1,25 @@
 //! Makes the calls of a script one after another and writes their answers.
 
+use crate::calls;
+use crate::engine::Engine;
 use crate::frame::{Id, Placed};
 use crate::reader::{self, Step};
 use crate::text::{self, Line};
 use crate::writer;
 
 const LARGEST_REWRITE: u64 = 70_000;
-const UNTOUCHED: u8 = 0xee;
+/// An output's bytes before a call.
+pub const UNTOUCHED: u8 = 0xee;
 
-/// What the calls of one script act on. The reader's calls keep nothing between them; an engine
-/// that the calls share belongs here.
-pub struct Player;
+/// What the calls of one script act on. The reader's calls keep nothing between them.
+#[derive(Default)]
+pub struct Player {
+    engine: Engine,
+}
 
 impl Player {
-    pub fn new() -> Player {
-        Player
+    pub fn engine(&self) -> &Engine {
+        &self.engine
     }
 
     /// The answer to one call, or nothing where the words are no call.
@@ -22,7 +27,7 @@ impl Player {
         let (name, rest) = words.split_first()?;
         match (*name, rest) {
             (b"new", []) => {
-                *self = Player::new();
+                self.engine = Engine::default();
                 Some("0".to_string())
             }
             (b"read", [frame]) => Some(read(&text::bytes(frame)?)),
@@ -34,7 +39,7 @@ impl Player {
                 let size = text::number(size).filter(|&size| size <= LARGEST_REWRITE)?;
                 Some(rewrite(size as usize, &text::bytes(frame)?))
             }
-            _ => None,
+            _ => calls::call(&mut self.engine, name, rest),
         }
     }
 
@@ -50,7 +55,7 @@ impl Player {
 }
 
 pub fn answers(script: &[u8]) -> Vec<u8> {
-    let mut player = Player::new();
+    let mut player = Player::default();
     let mut out = Vec::new();
     for (i, line) in text::lines(script).enumerate() {
         if let Some(answer) = player.line(i + 1, line) {

@@ -73,3 +73,102 @@ fn bad_lines_tell_their_number() {
     assert_eq!(answers[..10], expected);
     assert_eq!(answers[10..], ["20 0 0 0 0"]);
 }
+
+const P1: &str = "setup 64 1 1 1 5
+start 0
+can-range 0 0 4294967295
+can 0 16 0 0x123 0102
+can-state 0 1 0 0 0
+can 0 16 20833 0xC1ABCDEF AA
+tick 16 999999
+tick 16 1000000
+";
+
+#[test]
+fn the_worked_example_of_the_engine() {
+    let answers = play(&(P1.to_string() + "take 40\ntake 1\ntake 0\ndiscards\n"));
+    assert_eq!(answers[..8], ["0", "0", "0 0", "0", "0", "0", "0", "0"]);
+    let frame = EXAMPLE.to_lowercase();
+    assert_eq!(answers[8], format!("0 36 {frame}eeeeeeee"));
+    assert_eq!(answers[9..], ["13 0 ee", "13 0 -", "0 0"]);
+}
+
+#[test]
+fn a_refused_take_shows_the_untouched_output() {
+    let answers = play(&(P1.to_string() + "take 3\ntake 2048\ntake 2049\n"));
+    assert_eq!(answers[8], "12 0 eeeeee");
+    assert_eq!(answers[9].len(), "0 36 ".len() + 4_096);
+    assert_eq!(answers[10], "? 11");
+}
+
+#[test]
+fn a_new_engine_is_before_setup() {
+    assert_eq!(play("new\nstart 0\n"), ["0", "2"]);
+    let again = P1.to_string() + "setup 64 1 1 1 5\nnew\nsetup 64 1 1 1 5\n";
+    assert_eq!(play(&again)[8..], ["14", "0", "0"]);
+}
+
+#[test]
+fn the_filter_calls_answer_with_a_place() {
+    let script = "setup 64 1 1 1 0 2 0 3 0
+can-mask 0 4294967295 4294967295
+can-range 0 1 0
+lin-mask 1 63 63
+lin-mask 1 64 0
+lin-range 1 0 63
+flexray-filter 2 0 2047 0 63 64
+flexray-filter 1 0 2047 0 63 64
+remove 1 1
+remove 1 1
+remove 3 0";
+    let expected = [
+        "0", "0 0", "9 0", "0 0", "9 0", "0 1", "0 0", "4 0", "0", "11", "2",
+    ];
+    assert_eq!(play(script), expected);
+}
+
+#[test]
+fn every_number_has_its_width() {
+    let wide = "18446744073709551615";
+    let narrow = "4294967295";
+    let calls = [
+        format!("setup {wide} {wide} {wide} {narrow} {narrow}"),
+        format!("switch {wide} {wide} {wide}"),
+        format!("start {wide}"),
+        format!("can {wide} {wide} {narrow} {narrow} 00"),
+        format!("lin {wide} {wide} {narrow} {narrow} {narrow} 00"),
+        format!("flexray {wide} {wide} {narrow} {narrow} {narrow} {narrow} 00"),
+        format!("conflict {wide} {wide} {narrow} {narrow} {narrow} {narrow}"),
+        format!("can-state {wide} 1 1 1 {narrow}"),
+        format!("lin-state {wide} 1"),
+        format!("flexray-state {wide} 1 {narrow}"),
+        format!("tick {wide} {narrow}"),
+        format!("can-mask {wide} {narrow} {narrow}"),
+        format!("lin-range {wide} {narrow} {narrow}"),
+        format!("flexray-filter {wide} {narrow} {narrow} {narrow} {narrow} {narrow}"),
+        format!("remove {wide} {wide}"),
+    ];
+    for call in calls {
+        assert!(!play(&call)[0].starts_with('?'), "{call}");
+        let words: Vec<&str> = call.split(' ').collect();
+        for i in 1..words.len() {
+            let mut wider = words.clone();
+            let over = (words[i].parse::<u128>().unwrap_or(0xf) + 1).to_string();
+            wider[i] = if words[i] == "00" { "000" } else { &over };
+            assert_eq!(play(&wider.join(" ")), ["? 1"], "{wider:?}");
+        }
+        assert_eq!(play(&(call.clone() + " 0")), ["? 1"]);
+        assert_eq!(play(&words[..words.len() - 1].join(" ")), ["? 1"]);
+    }
+}
+
+#[test]
+fn setup_takes_any_number_of_pairs() {
+    let pairs = |count| "setup 64 1 1".to_string() + &" 1 5".repeat(count);
+    for count in [0, 2, 9, 1_000, 40_000] {
+        assert_eq!(play(&pairs(count)), ["14"]);
+        assert_eq!(play(&(pairs(count) + " 1")), ["? 1"]);
+    }
+    assert_eq!(play(&pairs(1)), ["0"]);
+    assert_eq!(play("setup 64 1"), ["? 1"]);
+}

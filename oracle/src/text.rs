@@ -50,6 +50,19 @@ pub fn number(word: &[u8]) -> Option<u64> {
     })
 }
 
+pub fn number32(word: &[u8]) -> Option<u32> {
+    u32::try_from(number(word)?).ok()
+}
+
+/// A number that is 0 or 1.
+pub fn flag(word: &[u8]) -> Option<bool> {
+    match number(word)? {
+        0 => Some(false),
+        1 => Some(true),
+        _ => None,
+    }
+}
+
 pub fn bytes(word: &[u8]) -> Option<Vec<u8>> {
     if word == b"-" {
         return Some(Vec::new());
@@ -129,6 +142,16 @@ mod tests {
         }
         assert_eq!(of("18446744073709551616"), None);
         assert_eq!(of("0x10000000000000000"), None);
+    }
+
+    #[test]
+    fn narrower_numbers() {
+        assert_eq!(number32(b"4294967295"), Some(u32::MAX));
+        assert_eq!(number32(b"4294967296"), None);
+        assert_eq!(flag(b"0x01"), Some(true));
+        assert_eq!(flag(b"000"), Some(false));
+        assert_eq!(flag(b"2"), None);
+        assert_eq!(flag(b"-"), None);
     }
 
     #[test]

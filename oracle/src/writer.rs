@@ -1,9 +1,8 @@
 //! Lays a header and items out as bytes, from what the reader yields and from nothing else.
 
-use crate::frame::{Frame, Header, Id, Item};
+use crate::cause::OUTPUT_TOO_SHORT;
+use crate::frame::{Frame, Header, Id, Item, Time};
 use crate::reader;
-
-pub const OUTPUT_TOO_SHORT: u8 = 12;
 
 /// The answer number; the output changes only where it is 0.
 pub fn rewrite(frame: &[u8], output: &mut [u8]) -> u8 {
@@ -24,12 +23,12 @@ pub fn lay_out(frame: &Frame) -> Vec<u8> {
     let mut out = Vec::new();
     put_header(&mut out, &frame.header);
     for placed in &frame.items {
-        put_item(&mut out, &frame.header, &placed.item);
+        put_item(&mut out, frame.header.time, &placed.item);
     }
     out
 }
 
-fn put_header(out: &mut Vec<u8>, header: &Header) {
+pub fn put_header(out: &mut Vec<u8>, header: &Header) {
     out.push(1);
     out.push(header.sequence);
     out.extend_from_slice(&header.time.seconds.to_be_bytes()[2..]);
@@ -37,8 +36,8 @@ fn put_header(out: &mut Vec<u8>, header: &Header) {
     out.extend_from_slice(&header.data_length.to_be_bytes());
 }
 
-fn put_item(out: &mut Vec<u8>, header: &Header, item: &Item) {
-    let offset = item.time.ticks_since(header.time) as u16;
+pub fn put_item(out: &mut Vec<u8>, header_time: Time, item: &Item) {
+    let offset = item.time.ticks_since(header_time) as u16;
     out.extend_from_slice(&offset.to_be_bytes());
     let flag = |present: bool, bit: u8| u8::from(present) << bit;
     out.push(

@@ -2,3 +2,4 @@ pub mod MirrorLaws
 pub mod Kept
 pub mod Refused
 pub mod Unique
+pub mod Vectors

@@ -5,3 +5,4 @@ pub mod Report
 pub mod Tick
 pub mod Take
 pub mod Call
+pub mod Vectors

@@ -1,68 +1,82 @@
-// One line: its call made on the reader, its answer written.
-use codec::number::Put;
+// One line: its call made on the engine or by the reader, its answer written.
+use crate::engine::Made;
+use mirror::engine::Engine;
 use script::call::Call;
 use text::bytes::Bytes;
-ghost use mathlib.Core.Path.{_≡_};
-ghost use lib.ListN.{length};
 
-// A payload line has the number of the step at the same place.
-fn payload(out: &mut [u8], at: usize, frame: &[u8], place: usize) -> Put {
-    let answer = reader::stepped_number(reader::step(frame, place));
-    script::answer::with_bytes(out, at, answer, reader::payload(frame, place))
-}
-
-fn rewrite_in(out: &mut [u8], at: usize, frame: &[u8], room: &mut [u8]) -> Put {
-    let answer = reader::rewritten_number(reader::rewrite(frame, room));
-    script::answer::with_bytes(out, at, answer, room)
-}
-
-// What a rewrite leaves alone shows as EE. The length is promised for the part that is lent of it.
-fn untouched() -> [u8; 70000]
-    ensures { λ r. ⌜ 70000 ≡ length r ⌝ }
-{
-    [0xEE; 70000]
-}
-
-fn rewrite(out: &mut [u8], at: usize, frame: &[u8], size: usize) -> Put {
-    if 70000 < size {
-        return Put::Nothing;
-    }
-    let mut room = untouched();
-    rewrite_in(out, at, frame, &mut room[..size])
-}
-
-fn made(call: Call, frame: &[u8], out: &mut [u8], at: usize) -> Put {
-    match call {
-        Call::Bad => Put::Nothing,
-        Call::New => text::put::decimal(out, at, 0),
-        Call::Read => script::answer::judged(out, at, reader::judge(frame)),
-        Call::Step(place) => script::answer::stepped(out, at, reader::step(frame, place as usize)),
-        Call::Payload(place) => payload(out, at, frame, place as usize),
-        Call::Rewrite(size) => rewrite(out, at, frame, size as usize),
-    }
-}
-
-// Which word the bytes of a frame are; a call without them has none there, which reads as bad bytes.
+// Which word the bytes are, a payload or a frame; 0 for a call without them.
 fn bytes_word(call: Call) -> usize {
     match call {
-        Call::Bad => 0,
-        Call::New => 0,
         Call::Read => 1,
         Call::Step(_) => 2,
         Call::Payload(_) => 2,
         Call::Rewrite(_) => 2,
+        Call::Can {
+            source: _,
+            time: _,
+            key: _,
+        } => 5,
+        Call::Lin {
+            source: _,
+            time: _,
+            pid: _,
+            errors: _,
+        } => 6,
+        Call::FlexRay {
+            source: _,
+            time: _,
+            channels: _,
+            slot: _,
+            cycle: _,
+        } => 7,
+        _ => 0,
     }
 }
 
-// Nothing is written where the line is no call.
-pub(crate) fn answer(line: &[u8], frame: &mut [u8], out: &mut [u8], at: usize) -> Put {
+// The reports that have a payload, and the reader's calls, which leave the engine alone.
+fn with_bytes(engine: Engine, call: Call, bytes: &[u8], out: &mut [u8], at: usize) -> Made {
+    match call {
+        Call::Can { source, time, key } => {
+            crate::engine::done(engine.can(source, time, key, bytes), out, at)
+        }
+        Call::Lin {
+            source,
+            time,
+            pid,
+            errors,
+        } => crate::engine::done(engine.lin(source, time, pid, errors, bytes), out, at),
+        Call::FlexRay {
+            source,
+            time,
+            channels,
+            slot,
+            cycle,
+        } => crate::engine::done(
+            engine.flexray(source, time, channels, slot, cycle, bytes),
+            out,
+            at,
+        ),
+        _ => Made {
+            engine,
+            put: crate::read::make(call, bytes, out, at),
+        },
+    }
+}
+
+pub(crate) fn answer(
+    engine: Engine,
+    line: &[u8],
+    frame: &mut [u8],
+    out: &mut [u8],
+    at: usize,
+) -> Made {
     let call = script::call::parse(line);
     let k = bytes_word(call);
     if k == 0 {
-        return made(call, b"", out, at);
+        return crate::engine::make(engine, call, line, out, at);
     }
     let Bytes::Are(n) = text::bytes::read(text::line::word(line, k), frame) else {
-        return Put::Nothing;
+        return crate::engine::no_call(engine);
     };
-    made(call, text::part::front(frame, n), out, at)
+    with_bytes(engine, call, text::part::front(frame, n), out, at)
 }

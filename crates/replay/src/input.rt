@@ -2,6 +2,7 @@
 use codec::number::Put;
 use libc::STDIN_FILENO;
 use libc::STDOUT_FILENO;
+use mirror::engine::Engine;
 
 // The line being gathered: its number, how much of it is held, and whether it is too long to hold; and
 // whether the input is over.
@@ -10,6 +11,18 @@ struct Place {
     held: usize,
     long: bool,
     over: bool,
+}
+
+// What is kept from turn to turn; the engine starts before setup.
+struct State {
+    engine: Engine,
+    place: Place,
+}
+
+// The engine after a line, and where the answers end that are not yet written.
+struct Told {
+    engine: Engine,
+    at: usize,
 }
 
 fn flush(out: &[u8], at: usize) {
@@ -70,87 +83,124 @@ fn bad(out: &mut [u8], at: usize, number: u64) -> usize {
     past(codec::number::put_bytes(out, end, b"\n"), end)
 }
 
-fn answer(line: &[u8], frame: &mut [u8], out: &mut [u8], at: usize, number: u64) -> usize {
-    let kept = text::line::kept(line);
-    if kept.len() == 0 {
-        return at;
-    }
-    match crate::call::answer(kept, frame, out, at) {
+fn end(out: &mut [u8], at: usize, put: Put, number: u64) -> usize {
+    match put {
         Put::Next(end) => past(codec::number::put_bytes(out, end, b"\n"), end),
         Put::Nothing => bad(out, at, number),
     }
 }
 
-fn close(line: &[u8], frame: &mut [u8], out: &mut [u8], at: usize, place: Place) -> usize {
-    let start = roomy(out, at);
-    if place.long {
-        return bad(out, start, place.number);
+fn answer(
+    engine: Engine,
+    line: &[u8],
+    frame: &mut [u8],
+    out: &mut [u8],
+    at: usize,
+    number: u64,
+) -> Told {
+    let kept = text::line::kept(line);
+    if kept.len() == 0 {
+        return Told { engine, at };
     }
-    answer(
-        text::part::front(line, place.held),
-        frame,
-        out,
-        start,
-        place.number,
-    )
+    let made = crate::call::answer(engine, kept, frame, out, at);
+    let after = made.engine;
+    let put = made.put;
+    Told {
+        engine: after,
+        at: end(out, at, put, number),
+    }
 }
 
-fn take(chunk: &[u8], line: &mut [u8], frame: &mut [u8], out: &mut [u8], start: Place) -> Place {
+fn close(told: Told, line: &[u8], frame: &mut [u8], out: &mut [u8], place: Place) -> Told {
+    let engine = told.engine;
+    let at = roomy(out, told.at);
+    if place.long {
+        return Told {
+            engine,
+            at: bad(out, at, place.number),
+        };
+    }
+    let whole = text::part::front(line, place.held);
+    answer(engine, whole, frame, out, at, place.number)
+}
+
+fn written(told: Told, out: &[u8], place: Place) -> State {
+    flush(out, told.at);
+    let engine = told.engine;
+    State { engine, place }
+}
+
+fn take(
+    chunk: &[u8],
+    line: &mut [u8],
+    frame: &mut [u8],
+    out: &mut [u8],
+    engine: Engine,
+    start: Place,
+) -> State {
     let mut place = start;
+    let mut told = Told { engine, at: 0 };
     let mut rest = chunk;
-    let mut at: usize = 0;
     while 0 < rest.len() {
         let n = text::line::find(rest, b'\n');
         place = gather(line, text::part::front(rest, n), place);
         if rest.len() <= n {
-            flush(out, at);
-            return place;
+            return written(told, out, place);
         }
-        at = close(line, frame, out, at, place);
-        place = next(place);
         rest = &rest[n + 1..];
+        told = close(told, line, frame, out, place);
+        place = next(place);
     }
-    flush(out, at);
-    place
+    written(told, out, place)
 }
 
-// A last line needs no line feed; an empty piece after the last line feed is no line.
-fn last(line: &[u8], frame: &mut [u8], out: &mut [u8], place: Place) -> Place {
+// A last line needs no line feed; an empty piece after the last line feed is no line. No line comes
+// after it, so the engine is handed back as it was.
+fn last(line: &[u8], frame: &mut [u8], out: &mut [u8], engine: Engine, place: Place) -> State {
     if place.long | (0 < place.held) {
-        let at = close(line, frame, out, 0, place);
-        flush(out, at);
+        let told = close(Told { engine, at: 0 }, line, frame, out, place);
+        flush(out, told.at);
     }
-    Place {
-        number: place.number,
-        held: 0,
-        long: false,
-        over: true,
+    State {
+        engine,
+        place: Place {
+            number: place.number,
+            held: 0,
+            long: false,
+            over: true,
+        },
     }
 }
 
-fn turn(line: &mut [u8], frame: &mut [u8], out: &mut [u8], place: Place) -> Place {
+fn turn(line: &mut [u8], frame: &mut [u8], out: &mut [u8], state: State) -> State {
     let mut chunk = io::large_buffer();
     let got = libc::read(STDIN_FILENO, &mut chunk);
     let n = io::count(got, &chunk);
+    let engine = state.engine;
+    let place = state.place;
     if n == 0 {
-        return last(line, frame, out, place);
+        return last(line, frame, out, engine, place);
     }
-    take(&chunk[..n], line, frame, out, place)
+    take(&chunk[..n], line, frame, out, engine, place)
 }
 
 // A proved loop has to end, and nothing says that the input does. So it counts its turns down, from a
 // number that no run uses up.
 pub(crate) fn run(line: &mut [u8], frame: &mut [u8], out: &mut [u8]) {
-    let mut place = Place {
+    let place = Place {
         number: 1,
         held: 0,
         long: false,
         over: false,
     };
+    let mut state = State {
+        engine: mirror::engine::fresh(),
+        place,
+    };
     let mut turns = u64::MAX;
     while 0 < turns {
-        place = turn(line, frame, out, place);
-        if place.over {
+        state = turn(line, frame, out, state);
+        if state.place.over {
             return;
         }
         turns -= 1;

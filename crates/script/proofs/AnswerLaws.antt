@@ -14,9 +14,9 @@ use Rattle.codec.specs.declared.number.Put.the-variants as Put
 use Rattle.codec.proofs.NumberLaws.{hit, kept, chain, chain-put, from-laid, length-over}
 use Rattle.codec.proofs.Opened.{never}
 use borrow.Author.Tests.{ne-eqb, eqb-true}
-use Rattle.text.specs.Put.{decimalOf, hexOf}
+use Rattle.text.specs.Put.{hexOf}
 use Rattle.text.proofs.PutLaws.{hexes-length}
-use Rattle.script.specs.Answer.{Short, hexSize, bytesText}
+use Rattle.script.specs.Answer.{Short, hexSize}
 
 -- a write that had room
 pub short-put : {l : List ℕ} {at : ℕ} {bs l' : List ℕ} {p : Put} (k : ℕ) → Wrote true l at bs l' p → at + length bs ≤ length l → length bs ≤ k
@@ -76,7 +76,7 @@ front-length {k} {l} {bs} {l'} {n} a = a .laid .next ∙ zero-add (length bs) �
 pub short-is : {k : ℕ} {l : List ℕ} {at : ℕ} {bs cs l' : List ℕ} {r : ℕ} → Short k l at bs l' r → bs ≡ cs → Short k l at cs l' r
 short-is a e = rw e at a
 
--- a number and bytes
+-- a text and bytes
 pub hex-length : (bs : List ℕ) → length (hexOf bs) ≡ hexSize (length bs)
 hex-length [] = refl
 hex-length (b ∷ bs) =
@@ -90,18 +90,14 @@ size-least n = go (eqb n 0) refl
     go true e = let h : n ≡ 0 = eqb-true n 0 e in rw e (omega arith)
     go false e = rw e (omega arith)
 
-pub bytes-length : (a : ℕ) (bs : List ℕ) → length (bytesText a bs) ≡ length (decimalOf a ++ (32 ∷ [])) + hexSize (length bs)
-unfolding bytesText
-bytes-length a bs = length-append (decimalOf a ++ (32 ∷ [])) (hexOf bs) ∙ rw (hex-length bs)
+pub bytes-length : (xs bs : List ℕ) → length (xs ++ hexOf bs) ≡ length xs + hexSize (length bs)
+bytes-length xs bs = length-append xs (hexOf bs) ∙ rw (hex-length bs)
 
--- the front from the local text, then the bytes
-pub after-front : {k : ℕ} {t xs t' : List ℕ} {n : ℕ} {l : List ℕ} {at : ℕ} {ys m l' : List ℕ} {p r : Put} → Short k t 0 xs t' n
-    → Wrote true l at (take n t') m p → Wrote true m (at + n) ys l' r → at + length xs + length ys ≤ length l → Wrote true l at (xs ++ ys) l' r
-after-front {k} {t} {xs} {t'} {n} {l} {at} {ys} {m} {l'} {p} {r} f a b h =
-    let e : n ≡ length xs = f .laid .next ∙ zero-add (length xs) in
-    let w : Wrote true l at xs m p = rw (front-is f) at a in
-    let x : Wrote true m (at + length xs) ys l' r = rw e at b in
-    let s = short-put (length xs) w (omega arith) (omega arith) in
+-- a text, then the bytes
+pub after-front : {l : List ℕ} {at : ℕ} {xs ys m l' : List ℕ} {p r : Put} → Wrote true l at xs m p → Wrote true m (at + length xs) ys l' r
+    → at + length xs + length ys ≤ length l → Wrote true l at (xs ++ ys) l' r
+after-front {l} {at} {xs} {ys} {m} {l'} {p} {r} a b h =
+    let s = short-put (length xs) a (omega arith) (omega arith) in
     let q = s .kept in
-    let y : r ≡ Put.Next (at + length xs + length ys) = next-is x (omega arith) in
-    rw y (from-laid refl (rw (length-append xs ys) (omega arith)) (chain-put (s .laid) x (omega arith)))
+    let y : r ≡ Put.Next (at + length xs + length ys) = next-is b (omega arith) in
+    rw y (from-laid refl (rw (length-append xs ys) (omega arith)) (chain-put (s .laid) b (omega arith)))

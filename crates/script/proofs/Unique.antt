@@ -4,8 +4,12 @@ use denote.Ref.{now}
 use Rattle.script.proofs.answer.judged.Reads as judged
 use Rattle.script.proofs.answer.stepped.Reads as stepped
 use Rattle.script.proofs.answer.bad.Reads as bad
+use Rattle.script.proofs.answer.done.Reads as done
+use Rattle.script.proofs.answer.numbered.Reads as numbered
 use Rattle.script.proofs.answer.with_bytes.Reads as with-bytes
+use Rattle.script.proofs.answer.taken.Reads as taken
 use Rattle.script.proofs.call.parse.Reads as parse
+use Rattle.script.proofs.pairs.read.Reads as read
 
 pub judged-unique : (κs : _) (a : _) (r r′ : _) (x x′ : _) → judged.Post κs a r x → judged.Post κs a r′ x′ → (r ≡ r′) × (now (x .0) ≡ now (x′ .0))
 judged-unique κs a r r′ x x′ p q = (p .answer ∙ sym (q .answer), p .list ∙ sym (q .list))
@@ -16,8 +20,20 @@ stepped-unique κs a r r′ x x′ p q = (p .answer ∙ sym (q .answer), p .list
 pub bad-unique : (κs : _) (a : _) (r r′ : _) (x x′ : _) → bad.Post κs a r x → bad.Post κs a r′ x′ → (r ≡ r′) × (now (x .0) ≡ now (x′ .0))
 bad-unique κs a r r′ x x′ p q = (p .answer ∙ sym (q .answer), p .list ∙ sym (q .list))
 
+pub done-unique : (κs : _) (a : _) (r r′ : _) (x x′ : _) → done.Post κs a r x → done.Post κs a r′ x′ → (r ≡ r′) × (now (x .0) ≡ now (x′ .0))
+done-unique κs a r r′ x x′ p q = (p .answer ∙ sym (q .answer), p .list ∙ sym (q .list))
+
+pub numbered-unique : (κs : _) (a : _) (r r′ : _) (x x′ : _) → numbered.Post κs a r x → numbered.Post κs a r′ x′ → (r ≡ r′) × (now (x .0) ≡ now (x′ .0))
+numbered-unique κs a r r′ x x′ p q = (p .answer ∙ sym (q .answer), p .list ∙ sym (q .list))
+
 pub with-bytes-unique : (κs : _) (a : _) (r r′ : _) (x x′ : _) → with-bytes.Post κs a r x → with-bytes.Post κs a r′ x′ → (r ≡ r′) × (now (x .0) ≡ now (x′ .0))
 with-bytes-unique κs a r r′ x x′ p q = (p .answer ∙ sym (q .answer), p .list ∙ sym (q .list))
 
+pub taken-unique : (κs : _) (a : _) (r r′ : _) (x x′ : _) → taken.Post κs a r x → taken.Post κs a r′ x′ → (r ≡ r′) × (now (x .0) ≡ now (x′ .0))
+taken-unique κs a r r′ x x′ p q = (p .answer ∙ sym (q .answer), p .list ∙ sym (q .list))
+
 pub parse-unique : (κs : _) (a : _) (r r′ : _) (x x′ : _) → parse.Post κs a r x → parse.Post κs a r′ x′ → r ≡ r′
 parse-unique κs a r r′ x x′ p q = p ∙ sym q
+
+pub read-unique : (κs : _) (a : _) (r r′ : _) (x x′ : _) → read.Post κs a r x → read.Post κs a r′ x′ → (r ≡ r′) × (now (x .1 .0) ≡ now (x′ .1 .0))
+read-unique κs a r r′ x x′ p q = (p .answer ∙ sym (q .answer), p .list ∙ sym (q .list))

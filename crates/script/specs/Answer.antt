@@ -83,9 +83,17 @@ steppedText (Stepped.Refused why) = decimalOf (numberOf why) ++ (dash ++ dash ++
 unfoldable pub badText : ℕ → List ℕ
 badText line = (63 ∷ []) ++ fieldText line
 
+-- ANSWER NUMBER
+unfoldable pub numberedText : ℕ → ℕ → List ℕ
+numberedText n v = decimalOf n ++ fieldText v
+
 -- ANSWER BYTES
 unfoldable pub bytesText : ℕ → List ℕ → List ℕ
 bytesText n bs = decimalOf n ++ (32 ∷ []) ++ hexOf bs
+
+-- ANSWER LENGTH BYTES
+unfoldable pub takenText : ℕ → ℕ → List ℕ → List ℕ
+takenText n v bs = numberedText n v ++ (32 ∷ []) ++ hexOf bs
 
 -- how many characters n bytes are
 abbrev pub hexSize : ℕ → ℕ

@@ -1,2 +1,4 @@
+pub mod Word
 pub mod Call
+pub mod Pairs
 pub mod Answer

@@ -13,8 +13,8 @@ ghost use mathlib.Core.List.{_∷_, [], _++_};
 ghost use Prim.Native.Nat.{_+_, _/_, _≤_};
 ghost use lib.ListN.{length};
 ghost use Rattle.codec.specs.Number.{Wrote};
-ghost use Rattle.text.specs.Put.{decimalOf};
-ghost use Rattle.script.specs.Answer.{Short, fieldText, timeText, stateText, flexrayText, identText, loadText, placedText, itemText, judgedText, steppedText, badText, bytesText, hexSize};
+ghost use Rattle.text.specs.Put.{decimalOf, hexOf};
+ghost use Rattle.script.specs.Answer.{Short, fieldText, timeText, stateText, flexrayText, identText, loadText, placedText, itemText, judgedText, steppedText, badText, numberedText, bytesText, takenText, hexSize};
 
 fn lay(out: &mut [u8], at: usize, s: &[u8]) -> usize
     requires { ⌜ at + length (now s) ≤ length (now out) ⌝ }
@@ -189,12 +189,27 @@ pub fn bad(out: &mut [u8], at: usize, line: u64) -> Put
     codec::number::put_bytes(out, at, &text[..n])
 }
 
-fn lay_number(out: &mut [u8], answer: u8) -> usize
+// The answer of most calls.
+pub fn done(out: &mut [u8], at: usize, answer: u8) -> Put
+    ensures { λ r. ⌜ Wrote true (now (out .entry)) at (decimalOf answer) (now (out .exit)) r ⌝ }
+{
+    text::put::decimal(out, at, answer as u64)
+}
+
+fn lay_numbered(out: &mut [u8], answer: u8, v: u64) -> usize
     requires { ⌜ 256 ≤ length (now out) ⌝ }
-    ensures { λ r. ⌜ Short 21 (now (out .entry)) 0 (decimalOf answer ++ (32 ∷ [])) (now (out .exit)) r ⌝ }
+    ensures { λ r. ⌜ Short 41 (now (out .entry)) 0 (numberedText answer v) (now (out .exit)) r ⌝ }
 {
     let a = number(out, 0, answer as u64);
-    lay(out, a, b" ")
+    field(out, a, v)
+}
+
+pub fn numbered(out: &mut [u8], at: usize, answer: u8, v: u64) -> Put
+    ensures { λ r. ⌜ Wrote true (now (out .entry)) at (numberedText answer v) (now (out .exit)) r ⌝ }
+{
+    let mut text = [0u8; 256];
+    let n = lay_numbered(&mut text, answer, v);
+    codec::number::put_bytes(out, at, &text[..n])
 }
 
 fn hex_size(n: usize, most: usize) -> usize
@@ -204,27 +219,57 @@ fn hex_size(n: usize, most: usize) -> usize
     if n == 0 { 1 } else { 2 * n }
 }
 
-// A number, and a part of a frame or an output. It is the one answer that may be long, so its room is
-// asked for first and its bytes are written straight to the output.
-pub fn with_bytes(out: &mut [u8], at: usize, answer: u8, part: &[u8]) -> Put
-    ensures { λ r. ⌜ Wrote true (now (out .entry)) at (bytesText answer (now (part .entry))) (now (out .exit)) r ⌝ }
+// A short text, and a part of a frame or an output. No other answer may be long, so here the room is
+// asked for first and the bytes are written straight to the output.
+fn before_bytes(out: &mut [u8], at: usize, front: &[u8], part: &[u8]) -> Put
+    ensures { λ r. ⌜ Wrote true (now (out .entry)) at (now (front .entry) ++ hexOf (now (part .entry))) (now (out .exit)) r ⌝ }
 {
     let most = out.len();
     if most / 2 < part.len() {
         return Put::Nothing;
     }
-    let mut text = [0u8; 256];
-    let n = lay_number(&mut text, answer);
     let size = hex_size(part.len(), most);
     if most < size {
         return Put::Nothing;
     }
-    if most - size < n {
+    if most - size < front.len() {
         return Put::Nothing;
     }
-    if most - size - n < at {
+    if most - size - front.len() < at {
         return Put::Nothing;
     }
-    codec::number::put_bytes(out, at, &text[..n]);
-    text::put::hex(out, at + n, part)
+    codec::number::put_bytes(out, at, front);
+    text::put::hex(out, at + front.len(), part)
+}
+
+fn lay_number(out: &mut [u8], answer: u8) -> usize
+    requires { ⌜ 256 ≤ length (now out) ⌝ }
+    ensures { λ r. ⌜ Short 21 (now (out .entry)) 0 (decimalOf answer ++ (32 ∷ [])) (now (out .exit)) r ⌝ }
+{
+    let a = number(out, 0, answer as u64);
+    lay(out, a, b" ")
+}
+
+pub fn with_bytes(out: &mut [u8], at: usize, answer: u8, part: &[u8]) -> Put
+    ensures { λ r. ⌜ Wrote true (now (out .entry)) at (bytesText answer (now (part .entry))) (now (out .exit)) r ⌝ }
+{
+    let mut text = [0u8; 256];
+    let n = lay_number(&mut text, answer);
+    before_bytes(out, at, &text[..n], part)
+}
+
+fn lay_length(out: &mut [u8], answer: u8, size: u64) -> usize
+    requires { ⌜ 256 ≤ length (now out) ⌝ }
+    ensures { λ r. ⌜ Short 42 (now (out .entry)) 0 (numberedText answer size ++ (32 ∷ [])) (now (out .exit)) r ⌝ }
+{
+    let a = lay_numbered(out, answer, size);
+    lay(out, a, b" ")
+}
+
+pub fn taken(out: &mut [u8], at: usize, answer: u8, size: u64, part: &[u8]) -> Put
+    ensures { λ r. ⌜ Wrote true (now (out .entry)) at (takenText answer size (now (part .entry))) (now (out .exit)) r ⌝ }
+{
+    let mut text = [0u8; 256];
+    let n = lay_length(&mut text, answer, size);
+    before_bytes(out, at, &text[..n], part)
 }

@@ -157,7 +157,7 @@ counting-end {s} {n} {i} k h =
     omega (arith, k .left)
 
 -- word: the first word and the rest
-cut : (l : List ℕ) → ahead 32 l < length l → split l ≡ take (ahead 32 l) l ∷ split (drop (suc (ahead 32 l)) l)
+pub cut : (l : List ℕ) → ahead 32 l < length l → split l ≡ take (ahead 32 l) l ∷ split (drop (suc (ahead 32 l)) l)
 cut [] h = absurd (omega arith)
 cut (x ∷ xs) h = go (eqb x 32) refl (λ p. cut xs p)
   where
@@ -168,7 +168,7 @@ cut (x ∷ xs) h = go (eqb x 32) refl (λ p. cut xs p)
         let k : suc (ahead 32 xs) < suc (length xs) = rw e at h in
         rw e (ap (before x) (r (omega arith)))
 
-whole : (l : List ℕ) → length l ≤ ahead 32 l → split l ≡ l ∷ []
+pub whole : (l : List ℕ) → length l ≤ ahead 32 l → split l ≡ l ∷ []
 whole [] h = refl
 whole (x ∷ xs) h = go (eqb x 32) refl (λ p. whole xs p)
   where

@@ -96,26 +96,6 @@ const ODD_BUT_RIGHT: [&str; 12] = [
     "rewrite 0 -",
 ];
 
-/// Engine calls, some of them with words missing or wrong.
-const ENGINE: [&str; 16] = [
-    "setup 64 1 1 1 5",
-    "start 0",
-    "can-range 0 0 4294967295",
-    "can 0 16 0 0x123 0102",
-    "can-state 0 1 0 0 0",
-    "can 0 16 20833 0xC1ABCDEF AA",
-    "tick 16 999999",
-    "tick 16 1000000",
-    "take 40",
-    "discards",
-    "offline",
-    "setup",
-    "can-state 0 2 0 0 0",
-    "lin 0 1 2 3 4",
-    "take 2049",
-    "switch 64 1 4294967296 7",
-];
-
 fn write(sheet: &mut Sheet, random: &mut Random, pattern: &str) {
     let items = valid::any_items(random, 1);
     let frame = valid::frame(random, items).bytes();
@@ -128,10 +108,6 @@ pub fn every_bad_line(sheet: &mut Sheet, random: &mut Random) {
     for pattern in BAD.iter().chain(&SKIPPED).chain(&ODD_BUT_RIGHT) {
         write(sheet, random, pattern);
     }
-    sheet.note("Calls of the engine.");
-    sheet.line("new");
-    ENGINE.iter().for_each(|line| sheet.line(line));
-    sheet.line("new");
 }
 
 pub fn any_line(sheet: &mut Sheet, random: &mut Random) {

@@ -16,6 +16,8 @@ pub fn long_lines(sheet: &mut Sheet, random: &mut Random) {
     longest_of_states(sheet, random);
     sheet.note("Lines of just as many characters as a line may have, and of one more.");
     longest_lines(sheet, random);
+    sheet.note("Setups of many sources.");
+    many_sources(sheet);
 }
 
 fn some_thousand(sheet: &mut Sheet, random: &mut Random, least: u64) {
@@ -81,4 +83,17 @@ fn longest_lines(sheet: &mut Sheet, random: &mut Random) {
     sheet.line(&filled("new", " ", LONGEST_LINE + 1));
     sheet.line(&filled("new #", "#", LONGEST_LINE));
     sheet.line(&filled("# new", ".", LONGEST_LINE + 1));
+}
+
+/// However many sources a setup names, it is a call; half a source makes it none.
+fn many_sources(sheet: &mut Sheet) {
+    let start = "setup 64 1 1";
+    let most = (LONGEST_LINE - start.len()) / " 1 5".len();
+    for count in [9, 10, 16, 100, 257, most] {
+        sheet.line("new");
+        sheet.line(&(start.to_string() + &" 1 5".repeat(count)));
+        if count <= 100 {
+            sheet.line(&(start.to_string() + &" 1 5".repeat(count) + " 1"));
+        }
+    }
 }

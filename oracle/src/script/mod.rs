@@ -2,10 +2,17 @@
 //! the rest mixes them until the script is as long as asked for.
 
 mod bad;
+mod calls;
 mod damage;
+mod draft;
+mod edges;
+mod episode;
 mod long;
+mod near;
+mod opening;
 mod order;
 mod raw;
+mod scene;
 mod sheet;
 mod sweep;
 mod valid;
@@ -13,14 +20,20 @@ mod valid;
 use crate::random::Random;
 use sheet::Sheet;
 
+/// A short script still is no walk alone.
+const LEAST_MIX: usize = 3_000;
+
 /// The worked example, written by hand.
 const HEAD: &str = include_str!("head.txt");
 
 pub fn make(seed: u64, lines: usize) -> Vec<u8> {
     let mut random = Random::new(seed);
-    let mut sheet = Sheet::new();
+    let mut sheet = Sheet::default();
     sheet.text(HEAD);
+    opening::fixed_episodes(&mut sheet);
+    episode::before_setup(&mut sheet);
     sheet.note(&format!("Made from seed {seed}."));
+    edges::every_edge(&mut sheet, &mut random);
     valid::every_form(&mut sheet, &mut random);
     sweep::every_value(&mut sheet, &mut random);
     damage::every_damage(&mut sheet, &mut random);
@@ -28,6 +41,7 @@ pub fn make(seed: u64, lines: usize) -> Vec<u8> {
     bad::every_bad_line(&mut sheet, &mut random);
     long::long_lines(&mut sheet, &mut random);
     sheet.note("A mix of all of these.");
+    let lines = lines.max(sheet.lines() + LEAST_MIX);
     while sheet.lines() < lines {
         mixed(&mut sheet, &mut random);
     }
@@ -35,6 +49,10 @@ pub fn make(seed: u64, lines: usize) -> Vec<u8> {
 }
 
 fn mixed(sheet: &mut Sheet, random: &mut Random) {
+    if random.one_in(4) {
+        episode::any_episode(sheet, random);
+        return;
+    }
     match random.below(12) {
         0..=2 => valid::any_frame(sheet, random),
         3 => damage::cut(sheet, random),
@@ -83,6 +101,11 @@ mod tests {
                 assert!(counts.contains(&wanted), "{refusal} with seed {seed}");
             }
             assert!(counts.contains("step 30 ") && counts.contains("rewrite 12 "));
+            for cause in 1..=14 {
+                let wanted = format!(" {cause} ");
+                assert!(counts.contains(&wanted), "{cause} with seed {seed}");
+            }
+            assert!(!counts.contains("taken unreadable"));
         }
     }
 }

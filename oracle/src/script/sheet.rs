@@ -1,37 +1,44 @@
-//! The script while it is being written.
+//! The script while it is being written. Each line is played too, so that the next ones can be
+//! chosen by what the engine holds then.
 
+use crate::engine::Engine;
+use crate::play::Player;
 use crate::random::Random;
 use crate::text;
 
+#[derive(Default)]
 pub struct Sheet {
     out: Vec<u8>,
     lines: usize,
+    player: Player,
 }
 
 impl Sheet {
-    pub fn new() -> Sheet {
-        Sheet {
-            out: Vec::new(),
-            lines: 0,
-        }
-    }
-
     pub fn lines(&self) -> usize {
         self.lines
+    }
+
+    pub fn engine(&self) -> &Engine {
+        self.player.engine()
     }
 
     pub fn into_bytes(self) -> Vec<u8> {
         self.out
     }
 
-    pub fn line(&mut self, line: &str) {
+    /// The answer to the line, empty where it has none.
+    pub fn line(&mut self, line: &str) -> String {
         self.out.extend_from_slice(line.as_bytes());
         self.out.push(b'\n');
         self.lines += 1;
+        let answer = self.player.line(self.lines, line.as_bytes());
+        answer.unwrap_or_default()
     }
 
     pub fn text(&mut self, text: &str) {
-        text.lines().for_each(|line| self.line(line));
+        for line in text.lines() {
+            self.line(line);
+        }
     }
 
     pub fn note(&mut self, note: &str) {

@@ -2,9 +2,8 @@
 
 use super::raw::{RawFrame, RawItem, CAN, FLAG_SETS, FLEXRAY, ID, KINDS, LIN, PAYLOAD, STATE};
 use super::sheet::Sheet;
+use crate::frame::LAST_SECOND;
 use crate::random::Random;
-
-const LAST_SECOND: u64 = 281_474_976_710_655;
 
 /// Seconds and nanoseconds at the edges: some reach the next second exactly with the offsets 1 and
 /// 65,535, some stay one nanosecond under it.
@@ -100,7 +99,7 @@ fn id(random: &mut Random, kind: u8) -> Vec<u8> {
     }
 }
 
-fn can_key(random: &mut Random) -> u32 {
+pub fn can_key(random: &mut Random) -> u32 {
     let any = random.next() as u32;
     let fd = any & 0x4000_0000;
     if random.one_in(2) {

@@ -6,10 +6,10 @@ use Rattle.replay.proofs.input.run.Statement.{statement}
 use Rattle.replay.proofs.input.run.Tie as tie
 
 abbrev Inv-loop : tie.InvT-loop
-Inv-loop line₀ frame₀ out₀ place₀ turns₀ line frame out place turns = (length line ≡ length line₀) × (length frame ≡ length frame₀) × (length out ≡ length out₀)
+Inv-loop line₀ frame₀ out₀ state₀ turns₀ line frame out state turns = (length line ≡ length line₀) × (length frame ≡ length frame₀) × (length out ≡ length out₀)
 
 abbrev μ-loop : tie.MeasureT-loop
-μ-loop line₀ frame₀ out₀ place₀ turns₀ line frame out place turns = turns
+μ-loop line₀ frame₀ out₀ state₀ turns₀ line frame out state turns = turns
 
 pub run-spec : {M : Type 1} → statement M
 run-spec =
@@ -17,6 +17,7 @@ run-spec =
     (tie.spec
     Inv-loop
     μ-loop
+    (λ c κs. search needs)
     (λ c. search needs)
     (λ c κs. search needs)
     (λ c. search needs)

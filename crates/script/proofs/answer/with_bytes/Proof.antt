@@ -1,30 +1,16 @@
-use denote.Ref.{now}
-use lib.ListN.{length}
-use Rattle.codec.proofs.NumberLaws.{full}
-use Rattle.script.proofs.AnswerLaws.{bytes-length, size-least, front-length, after-front, hex-length}
+use Rattle.script.proofs.AnswerLaws.{front-is, front-length}
 use Rattle.script.specs.Answer.{bytesText}
 use borrow.Author.Needs.{needs}
-use native.Mathlib.Omega.{arith}
 use Rattle.script.proofs.answer.with_bytes.Statement.{statement}
 use Rattle.script.proofs.answer.with_bytes.Tie as tie
 
 pub with-bytes-spec : {M : Type 1} → statement M
 unfolding bytesText
-with-bytes-spec =
-    tie.close
-    (tie.spec
-    (λ c. full (omega (arith, bytes-length (c .before .before .before .args .answer) (now (c .before .before .before .args .part)), size-least (length (now (c .before .before .before .args .part))))))
-    (λ c. search needs)
-    (λ c κs. search needs)
-    (λ c κs. search needs)
-    (λ c. full (omega (arith, bytes-length (c .before .before .before .before .before .before .before .before .args .answer) (now (c .before .before .before .before .before .before .before .before .args .part)), size-least (length (now (c .before .before .before .before .before .before .before .before .args .part))), c .before .before .before .lay-number .ensures .laid .next, c .before .hex-size .ensures)))
-    (λ c. full (omega (arith, bytes-length (c .before .before .before .before .before .before .before .before .before .args .answer) (now (c .before .before .before .before .before .before .before .before .before .args .part)), size-least (length (now (c .before .before .before .before .before .before .before .before .before .args .part))), c .before .before .before .before .lay-number .ensures .laid .next, c .before .before .hex-size .ensures)))
-    (λ c. search needs)
-    (λ c. full (omega (arith, bytes-length (c .before .before .before .before .before .before .before .before .before .before .args .answer) (now (c .before .before .before .before .before .before .before .before .before .before .args .part)), size-least (length (now (c .before .before .before .before .before .before .before .before .before .before .args .part))), c .before .before .before .before .before .lay-number .ensures .laid .next, c .before .before .before .hex-size .ensures)))
-    (λ c. search needs)
-    (λ c. front-length (c .before .before .before .before .before .before .before .lay-number .ensures))
-    (λ c κs. search needs)
+with-bytes-spec = tie.close (tie.spec
     (λ c. search needs)
     (λ c κs. search needs)
     (λ c. search needs)
-    (λ c. after-front (c .before .before .before .before .before .before .before .before .before .before .before .before .before .before .lay-number .ensures) (c .before .before .before .before .before .before .put-bytes .ensures) (c .before .before .hex .ensures) (omega (arith, c .before .before .before .before .before .before .before .before .before .before .before .before .before .before .lay-number .ensures .laid .next, c .before .before .before .before .before .before .before .before .before .before .before .before .hex-size .ensures, hex-length (now (c .before .before .before .before .before .before .before .before .before .before .before .before .before .before .before .before .before .before .before .args .part)), c .before .before .before .before .before .before .before .before .before .if4, c .before .before .before .before .before .before .before .before .before .before .if3, c .before .before .before .before .before .before .before .before .before .before .before .if2))))
+    (λ c. front-length (c .before .before .before .lay-number .ensures))
+    (λ c κs. search needs)
+    (λ c. search needs)
+    (λ c. rw (← front-is (c .before .before .before .before .before .before .lay-number .ensures)) (c .before .before .before-bytes .ensures)))

@@ -6,17 +6,15 @@ use Rattle.script.proofs.call.placed.Tie as tie
 
 pub placed-spec : {M : Type 1} → statement M
 unfolding placedOf
-placed-spec =
-    tie.close
-    (tie.spec
+placed-spec = tie.close (tie.spec
     (λ c κs. search needs)
     (λ c. search needs)
     (λ c. search needs)
-    (λ c. simp (sym (c .before .before .read .ensures) ∙ c .enum-told .given .1))
+    (λ c. rw (sym (c .before .before .wide-at .ensures) ∙ c .enum-told .given .1))
     (λ c. search needs)
     (λ c κs. search needs)
-    (λ c. simp (sym (c .before .before .before .before .before .before .read .ensures) ∙ c .before .before .before .before .place .given .1, sym (c .before .same .ensures) ∙ c .if1 .taken))
+    (λ c. rw (sym (c .before .before .before .before .before .before .wide-at .ensures) ∙ c .before .before .before .before .place .given .1, sym (c .before .same .ensures) ∙ c .if1 .taken))
     (λ c. search needs)
     (λ c κs. search needs)
-    (λ c. simp (sym (c .before .before .before .before .before .before .before .before .before .read .ensures) ∙ c .before .before .before .before .before .before .before .place .given .1, sym (c .before .before .before .before .same .ensures) ∙ c .before .before .before .if1 .left, sym (c .before .same2 .ensures) ∙ c .if2 .taken))
-    (λ c. simp (sym (c .before .before .before .before .before .before .before .before .before .read .ensures) ∙ c .before .before .before .before .before .before .before .place .given .1, sym (c .before .before .before .before .same .ensures) ∙ c .before .before .before .if1 .left, sym (c .before .same2 .ensures) ∙ c .if2 .left)))
+    (λ c. rw (sym (c .before .before .before .before .before .before .before .before .before .wide-at .ensures) ∙ c .before .before .before .before .before .before .before .place .given .1, sym (c .before .before .before .before .same .ensures) ∙ c .before .before .before .if1 .left, sym (c .before .same2 .ensures) ∙ c .if2 .taken))
+    (λ c. rw (sym (c .before .before .before .before .before .before .before .before .before .wide-at .ensures) ∙ c .before .before .before .before .before .before .before .place .given .1, sym (c .before .before .before .before .same .ensures) ∙ c .before .before .before .if1 .left, sym (c .before .same2 .ensures) ∙ c .if2 .left)))

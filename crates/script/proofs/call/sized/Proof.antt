@@ -6,11 +6,9 @@ use Rattle.script.proofs.call.sized.Tie as tie
 
 pub sized-spec : {M : Type 1} → statement M
 unfolding sizedOf
-sized-spec =
-    tie.close
-    (tie.spec
+sized-spec = tie.close (tie.spec
     (λ c κs. search needs)
     (λ c. search needs)
     (λ c. search needs)
-    (λ c. simp (sym (c .before .before .read .ensures) ∙ c .enum-told .given .1))
-    (λ c. simp (sym (c .before .before .before .read .ensures) ∙ c .before .size .given .1)))
+    (λ c. rw (sym (c .before .before .read .ensures) ∙ c .enum-told .given .1))
+    (λ c. rw (sym (c .before .before .before .read .ensures) ∙ c .before .size .given .1)))

@@ -1,0 +1,116 @@
+// Calls of the engine. Each hands the engine on, since it is kept by value from line to line.
+use codec::number::Put;
+use mirror::engine::Engine;
+use mirror::engine::Outcome;
+use script::call::Call;
+use script::pairs::Pairs;
+ghost use mathlib.Core.Path.{_≡_};
+ghost use lib.ListN.{length};
+
+// Nothing is put where the line is no call.
+pub(crate) struct Made {
+    pub(crate) engine: Engine,
+    pub(crate) put: Put,
+}
+
+pub(crate) fn no_call(engine: Engine) -> Made {
+    Made {
+        engine,
+        put: Put::Nothing,
+    }
+}
+
+fn fresh(out: &mut [u8], at: usize) -> Made {
+    Made {
+        engine: mirror::engine::fresh(),
+        put: script::answer::done(out, at, 0),
+    }
+}
+
+pub(crate) fn done(outcome: Outcome, out: &mut [u8], at: usize) -> Made {
+    let engine = outcome.engine;
+    Made {
+        engine,
+        put: script::answer::done(out, at, outcome.answer),
+    }
+}
+
+fn discards(engine: Engine, out: &mut [u8], at: usize) -> Made {
+    let counted = engine.discards();
+    Made {
+        engine,
+        put: script::answer::numbered(out, at, counted.answer, counted.count as u64),
+    }
+}
+
+fn take_in(engine: Engine, room: &mut [u8], out: &mut [u8], at: usize) -> Made {
+    let taken = engine.take(room);
+    let after = taken.engine;
+    Made {
+        engine: after,
+        put: script::answer::taken(out, at, taken.answer, taken.length as u64, room),
+    }
+}
+
+// What a take leaves alone shows as EE. The length is promised for the part that is lent of it.
+fn untouched() -> [u8; 2048]
+    ensures { λ r. ⌜ 2048 ≡ length r ⌝ }
+{
+    [0xEE; 2048]
+}
+
+fn take(engine: Engine, size: usize, out: &mut [u8], at: usize) -> Made {
+    if 2048 < size {
+        return no_call(engine);
+    }
+    let mut room = untouched();
+    take_in(engine, &mut room[..size], out, at)
+}
+
+// The numbers that a line has, or all where it has more: a caller needs no bound on n.
+fn front(numbers: &[u32; 18], n: usize) -> &[u32] {
+    let all: &[u32] = numbers;
+    if all.len() <= n {
+        return all;
+    }
+    &all[..n]
+}
+
+fn setup(
+    engine: Engine,
+    size: u64,
+    room: u64,
+    deadline: u64,
+    line: &[u8],
+    out: &mut [u8],
+    at: usize,
+) -> Made {
+    let mut numbers = [0u32; 18];
+    let Pairs::Are(n) = script::pairs::read(line, &mut numbers) else {
+        return no_call(engine);
+    };
+    let outcome = engine.setup(size, room, deadline, front(&numbers, n));
+    done(outcome, out, at)
+}
+
+// The calls of the whole engine; those of one source are made apart.
+pub(crate) fn make(engine: Engine, call: Call, line: &[u8], out: &mut [u8], at: usize) -> Made {
+    match call {
+        Call::New => fresh(out, at),
+        Call::Offline => done(engine.offline(), out, at),
+        Call::Discards => discards(engine, out, at),
+        Call::Take(size) => take(engine, size as usize, out, at),
+        Call::Tick(time) => done(engine.tick(time), out, at),
+        Call::Setup {
+            size,
+            room,
+            deadline,
+        } => setup(engine, size, room, deadline, line, out, at),
+        Call::Switch {
+            size,
+            room,
+            deadline,
+        } => done(engine.switch(size, room, deadline), out, at),
+        _ => crate::source::make(engine, call, out, at),
+    }
+}
