@@ -18,7 +18,7 @@ use Rattle.codec.specs.Number.{over, fits, Wrote}
 use Rattle.framer.specs.declared.queue.Queue.{Queue}
 use Rattle.framer.specs.Queue.{queued, lengthAt}
 use Rattle.framer.specs.Meter.{closesFor, isWithin, itemOf, soundMeter, Sound, startOf, closedMeter, slotOf, placedMeter, takenMeter, offsetFor}
-use Rattle.framer.specs.Framer.{closed, begun, laidOut, itemSize, placed, added, add, passed, notTaken, takeOf, outOf}
+use Rattle.framer.specs.Framer.{closed, begun, laidOut, itemSize, filledMeter, filledBytes, placed, added, add, passed, notTaken, takeOf, outOf}
 use Rattle.framer.specs.declared.framer.Framer.{Framer}
 use Rattle.codec.specs.declared.item.Item.{Item}
 use Rattle.codec.specs.declared.number.Put.{Put}
@@ -136,12 +136,18 @@ unfolding closed
 close-lost w m em h = rw (le-ltb (w .meter .waiting) (w .meter .room) h, ← em)
 
 -- adding: the frame with the item
-pub place-by : (w : Framer) (t : Time) (o : Offer) (payload : List ℕ) (item : Item) (n : ℕ) (after : Meter) (at : ℕ) (begin end : List ℕ)
-    → item ≡ itemOf (w .meter .lost) (offsetFor (w .meter) t) o → n ≡ itemLength item (length payload) → after ≡ placedMeter (w .meter) t n
-    → at ≡ startOf (w .meter) → begin ≡ begun (w .bytes) (w .meter) t → end ≡ laidOut begin at item payload (after .filled - 14)
-    → record { meter = after; bytes = end; queue = w .queue } ≡ placed w t o payload
-unfolding placed itemSize
-place-by w t o payload item n after at begin end ei en ea es eb ee = rw (← ei, ← en, ← ea, ← es, ← eb, ← ee)
+pub fill-by : (l : List ℕ) (m : Meter) (t : Time) (o : Offer) (payload : List ℕ) (item : Item) (n : ℕ) (after : Meter) (at : ℕ) (begin end : List ℕ)
+    → item ≡ itemOf (m .lost) (offsetFor m t) o → n ≡ itemLength item (length payload) → after ≡ placedMeter m t n
+    → at ≡ startOf m → begin ≡ begun l m t → end ≡ laidOut begin at item payload (after .filled - 14)
+    → (after ≡ filledMeter m t o (length payload)) × (end ≡ filledBytes l m t o payload)
+unfolding filledBytes filledMeter itemSize
+fill-by l m t o payload item n after at begin end ei en ea es eb ee = (rw (← ei, ← en, ← ea), rw (← ei, ← en, ← ea, ← es, ← eb, ← ee))
+
+pub place-by : (w : Framer) (t : Time) (o : Offer) (payload bytes : List ℕ) (m : Meter)
+    → (m ≡ filledMeter (w .meter) t o (length payload)) × (bytes ≡ filledBytes (w .bytes) (w .meter) t o payload)
+    → record { meter = m; bytes = bytes; queue = w .queue } ≡ placed w t o payload
+unfolding placed
+place-by w t o payload bytes m e = rw (e .0, e .1)
 
 pub add-unsound : (w : Framer) (t : Time) (o : Offer) (payload : List ℕ) → soundMeter (w .meter) ≡ false → w ≡ add w t o payload
 unfolding add

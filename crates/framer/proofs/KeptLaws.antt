@@ -18,7 +18,7 @@ use Rattle.framer.specs.declared.offer.Offer.{Offer}
 use Rattle.framer.specs.declared.meter.Meter.{Meter}
 use Rattle.framer.specs.declared.framer.Framer.{Framer}
 use Rattle.framer.specs.Meter.{limitsOk, soundMeter, Sound, emptyMeter, stateShown, itemOf, offsetFor, isWithin, closesFor, closedMeter, startOf, placedMeter, takenMeter}
-use Rattle.framer.specs.Framer.{emptyFramer, closed, itemSize, placed, added, add, passed, notTaken, takeOf}
+use Rattle.framer.specs.Framer.{emptyFramer, closed, itemSize, filledMeter, placed, added, add, passed, notTaken, takeOf}
 use Rattle.framer.specs.Queue.{lengthAt}
 use Rattle.framer.proofs.FramerLaws.{sounds, sound-flag}
 use Rattle.codec.proofs.BoolLaws.{and-l, and-r}
@@ -187,7 +187,7 @@ closed-size m = go (ltb (m .waiting) (m .room)) refl
 
 kept-place : (w : Framer) (t : Time) (o : Offer) (payload : List ℕ) → Sound (w .meter) → timeOk t ≡ true → 14 + most o (length payload) ≤ w .meter .size
     → closesFor (w .meter) t o (length payload) ≡ false → Sound (placed w t o payload .meter)
-unfolding placed
+unfolding placed filledMeter
 kept-place w t o payload s g h e =
     kept-placed (w .meter) t (itemSize (w .meter) t o (length payload)) s g (start-sound (w .meter) s) (room (w .meter) t o (length payload) h e)
 

@@ -49,16 +49,20 @@ laidOut l at item payload total =
 unfoldable pub itemSize : Meter → Time → Offer → ℕ → ℕ
 itemSize m t o n = itemLength (itemOf (m .lost) (offsetFor m t) o) n
 
--- the frame with the item that the offer makes at time t (rules 1 and 4)
+-- the numbers, and the bytes of the frame, after the item that the offer makes at time t (rules 1 and 4)
+unfoldable pub filledMeter : Meter → Time → Offer → ℕ → Meter
+filledMeter m t o n = placedMeter m t (itemSize m t o n)
+
+unfoldable pub filledBytes : List ℕ → Meter → Time → Offer → List ℕ → List ℕ
+filledBytes l m t o payload =
+    laidOut (begun l m t) (startOf m) (itemOf (m .lost) (offsetFor m t) o) payload (filledMeter m t o (length payload) .filled - 14)
+
 unfoldable pub placed : Framer → Time → Offer → List ℕ → Framer
-placed w t o payload =
-    let m = w .meter in
-    let after = placedMeter m t (itemSize m t o (length payload)) in
-    record {
-      meter = after;
-      bytes = laidOut (begun (w .bytes) m t) (startOf m) (itemOf (m .lost) (offsetFor m t) o) payload (after .filled - 14);
-      queue = w .queue;
-    }
+placed w t o payload = record {
+  meter = filledMeter (w .meter) t o (length payload);
+  bytes = filledBytes (w .bytes) (w .meter) t o payload;
+  queue = w .queue;
+}
 
 -- close first if the item asks for it; the choice of the state, and the size, is made again after a closing (rules 2 and 4)
 unfoldable pub added : Framer → Time → Offer → List ℕ → Framer

@@ -10,7 +10,7 @@ ghost use mathlib.Core.Path.{_≡_};
 ghost use Prim.Native.Nat.{_≤_};
 ghost use lib.ListN.{length};
 ghost use Rattle.framer.specs.Meter.{placedMeter, startOf};
-ghost use Rattle.framer.specs.Framer.{emptyFramer, closed, begun, laidOut, placed, add, passed, takeOf, outOf};
+ghost use Rattle.framer.specs.Framer.{emptyFramer, closed, begun, laidOut, filledMeter, filledBytes, add, passed, takeOf, outOf};
 
 pub struct Framer {
     pub meter: Meter,
@@ -75,6 +75,21 @@ fn placed_meter(m: Meter, t: Time, n: usize) -> Meter
     r
 }
 
+// The next item behind the last, or behind a header where there is none. The array is lent, so that an item moves no other byte.
+fn fill(bytes: &mut [u8; 1024], m: Meter, t: Time, o: Offer, payload: &[u8]) -> Meter
+    requires { ⌜ m .filled ≤ 1024 ⌝ }
+    requires { ⌜ 14 ≤ startOf m ⌝ }
+    requires { ⌜ length (now payload) ≤ 254 ⌝ }
+    ensures { λ r. ⌜ (r ≡ filledMeter m t o (length (now (payload .entry)))) × (now (bytes .exit) ≡ filledBytes (now (bytes .entry)) m t o (now (payload .entry))) ⌝ }
+{
+    let item = crate::meter::next_item(m, t, o);
+    let n = codec::item::item_len(item, payload.len() as u8);
+    let after = placed_meter(m, t, n);
+    let at = begin(bytes, m, t);
+    lay(bytes, at, item, payload, after.filled - 14);
+    after
+}
+
 impl Framer {
     fn close(mut self) -> Framer
         requires { ⌜ self .meter .filled ≤ 1024 ⌝ }
@@ -92,24 +107,8 @@ impl Framer {
         self
     }
 
-    fn place(mut self, t: Time, o: Offer, payload: &[u8]) -> Framer
-        requires { ⌜ self .meter .filled ≤ 1024 ⌝ }
-        requires { ⌜ 14 ≤ startOf (self .meter) ⌝ }
-        requires { ⌜ length (now payload) ≤ 254 ⌝ }
-        ensures { λ r. ⌜ r ≡ placed self t o (now (payload .entry)) ⌝ }
-    {
-        let m = self.meter;
-        let item = crate::meter::next_item(m, t, o);
-        let n = codec::item::item_len(item, payload.len() as u8);
-        let after = placed_meter(m, t, n);
-        let at = begin(&mut self.bytes, m, t);
-        lay(&mut self.bytes, at, item, payload, after.filled - 14);
-        self.meter = after;
-        self
-    }
-
     // Closes the frame if the item asks for it, then adds the item.
-    pub fn add(self, t: Time, o: Offer, payload: &[u8]) -> Framer
+    pub fn add(mut self, t: Time, o: Offer, payload: &[u8]) -> Framer
         ensures { λ r. ⌜ r ≡ add self t o (now (payload .entry)) ⌝ }
     {
         let m = self.meter;
@@ -121,9 +120,13 @@ impl Framer {
             return self;
         }
         if crate::meter::closes(m, t, o, n as u8) {
-            return self.close().place(t, o, payload);
+            let mut next = self.close();
+            let none = next.meter;
+            next.meter = fill(&mut next.bytes, none, t, o, payload);
+            return next;
         }
-        self.place(t, o, payload)
+        self.meter = fill(&mut self.bytes, m, t, o, payload);
+        self
     }
 
     // Closes the frame if its deadline has passed.

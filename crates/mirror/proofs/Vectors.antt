@@ -11,7 +11,7 @@ use Rattle.framer.specs.Meter as Meter
 use Rattle.framer.specs.Meter.{limitsOk, soundMeter, emptyMeter, stateShown, itemOf, offsetFor, closesFor, slotOf, counted, closedMeter}
 use Rattle.framer.specs.Meter.{placedMeter, takenMeter}
 use Rattle.framer.specs.Queue.{emptyQueue, queued, lengthAt}
-use Rattle.framer.specs.Framer.{written, emptyFramer, closed, begun, laidOut, itemSize, placed, added, add, passed, takeOf, outOf}
+use Rattle.framer.specs.Framer.{written, emptyFramer, closed, begun, laidOut, itemSize, placed, filledMeter, filledBytes, added, add, passed, takeOf, outOf}
 use Rattle.bus.specs.Filter.{cycled, sameKind, canRange, linRange, slotsOf}
 use Rattle.bus.specs.Source.{freshSource, startedSource, addCause, addedFilter, due, tickDue, stateOffer, calmed}
 use Rattle.bus.specs.Report.{canReport, linReport, flexrayReport, tooBig, earlyCause, lateCause, reportCause, noted, offerOf, settled}
@@ -28,7 +28,7 @@ use Rattle.mirror.specs.Vectors.{table, Holds}
 pub vectors : Holds table
 unfolding fits ticksOf elapsed overdueOf Ident.canRange canZero canFd flexrayRange headerBytes linZero itemOk encode bytesAt
     limitsOk soundMeter emptyMeter stateShown itemOf offsetFor closesFor slotOf counted closedMeter Meter.startOf placedMeter takenMeter
-    emptyQueue queued lengthAt written emptyFramer closed begun laidOut itemSize placed added add passed takeOf outOf
+    emptyQueue queued lengthAt written emptyFramer closed begun laidOut itemSize placed filledMeter filledBytes added add passed takeOf outOf
     cycled sameKind canRange linRange slotsOf freshSource startedSource addCause addedFilter due tickDue stateOffer calmed
     canReport linReport flexrayReport tooBig earlyCause lateCause reportCause noted offerOf settled
     counterBits canByte canUpdate updateCause updated
