@@ -92,9 +92,6 @@ pick-0 : (b : Bool) (k r : ℕ) → pick b (suc k) r ≡ 0 → (b ≡ false) × 
 pick-0 true k r e = let z : ⊥ = omega arith in absurd z
 pick-0 false k r e = (refl, e)
 
-pub most-254 : (id : Ident) → mostOf id ≤ 254
-most-254 id = most-small id
-
 -- six tests, of which the first that holds gives the answer
 abbrev six : Bool → Bool → Bool → Bool → Bool → Bool → ℕ → ℕ
 six a b d e f g x = pick a 7 (pick b 2 (pick d 4 (pick e 3 (pick f 5 (pick g 6 x)))))
@@ -160,7 +157,7 @@ module _ (count : ℕ) (s : Source) (r : Report) (n : ℕ) where
       }
 
   pub early-short : earlyCause count s r n 0 ≡ 0 → n ≤ 254
-  early-short e = let h = early-passed 0 e .most in let k = most-254 (r .ident) in omega arith
+  early-short e = let h = early-passed 0 e .most in let k = most-small (r .ident) in omega arith
 
 -- what an accepted report passed
 pub record Passed (count f : ℕ) (s : Source) (r : Report) (n : ℕ) : Type 0 where

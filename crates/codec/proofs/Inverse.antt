@@ -8,7 +8,7 @@ use lib.ListN.{length, take, getD}
 use lib.Dec.{ltb, leb, eqb}
 use borrow.Author.Tests.{ltb-false, leb-true, eqb-true}
 use Rattle.codec.specs.Choice.{bit}
-use Rattle.codec.specs.Number.{be, word, Bytes, get8Of, get16Of}
+use Rattle.codec.specs.Number.{word, Bytes, get8Of, get16Of}
 use Rattle.codec.specs.Ident.{networkType, kindOf, identBit, mostOf}
 use Rattle.codec.specs.Item.{stateBit, setOf, setOk, encode, itemOk}
 use Rattle.codec.specs.Field.{readFlags, readState, readIdent, readLoad, readItem, bytesAt}

@@ -1,7 +1,7 @@
 -- What reading the fields of an item finds, left to right, missing bytes before a wrong value
 -- (01, "Reading a frame").
 use Prim.Native.Nat.{ℕ, _+_, _*_, _/_, _%_}
-use mathlib.Core.Bool.{Bool, not}
+use mathlib.Core.Bool.{Bool}
 use mathlib.Core.List.{List, []}
 use lib.ListN.{take, drop, getD}
 use lib.Dec.{ltb, eqb}

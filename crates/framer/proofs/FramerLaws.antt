@@ -116,13 +116,13 @@ unfolding startOf
 start-least m e = start (m .filled) (sounds m e .header)
 
 -- closing
-pub closed-empty : (m : Meter) → closedMeter m .filled ≡ 0
+pub closed-size : (m : Meter) → (closedMeter m .size ≡ m .size) × (closedMeter m .filled ≡ 0)
 unfolding closedMeter
-closed-empty m = go (ltb (m .waiting) (m .room)) refl
+closed-size m = go (ltb (m .waiting) (m .room)) refl
   where
-    go : (b : Bool) → ltb (m .waiting) (m .room) ≡ b → closedMeter m .filled ≡ 0
-    go true e = rw e
-    go false e = rw e
+    go : (b : Bool) → ltb (m .waiting) (m .room) ≡ b → (closedMeter m .size ≡ m .size) × (closedMeter m .filled ≡ 0)
+    go true e = (rw e, rw e)
+    go false e = (rw e, rw e)
 
 pub close-kept : (w : Framer) (m : Meter) (q : Queue) (k : ℕ) (frame : List ℕ) → m ≡ closedMeter (w .meter) → w .meter .waiting < w .meter .room
     → k ≡ slotOf (w .meter) → frame ≡ take (w .meter .filled) (w .bytes) → q ≡ queued (w .queue) k frame
@@ -174,7 +174,7 @@ add-staying w r t o payload e h g er = rw (← add-is w t o payload e h, g, ← 
 pub closed-room : (w x : Framer) → x ≡ closed w → (x .meter .filled ≤ 1024) × (14 ≤ startOf (x .meter))
 unfolding closed startOf
 closed-room w x e =
-    let f : x .meter .filled ≡ 0 = rw e (closed-empty (w .meter)) in
+    let f : x .meter .filled ≡ 0 = rw e (closed-size (w .meter) .1) in
     (omega arith, rw f (omega arith))
 
 -- the deadline

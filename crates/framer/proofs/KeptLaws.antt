@@ -1,12 +1,12 @@
 -- Every call of a sound framer leaves a sound framer.
-use Prim.Native.Nat.{ℕ, _+_, _-_, _%_, _≤_, _<_}
-use mathlib.Core.Path.{_≡_, refl, sym, _∙_, ap}
+use Prim.Native.Nat.{ℕ, _+_, _-_, _≤_}
+use mathlib.Core.Path.{_≡_, refl, sym, ap}
 use mathlib.Core.Bool.{Bool, true, false, not, _&&_, _||_}
 use mathlib.Core.List.{List}
 use native.Mathlib.Omega.{arith}
 use lib.ListN.{length}
 use lib.Dec.{ltb, leb, eqb}
-use borrow.Author.Tests.{eq-eqb, ne-eqb, lt-ltb, le-ltb, ltb-true, ltb-false, le-leb, leb-true, eqb-true, eqb-false}
+use borrow.Author.Tests.{eq-eqb, ne-eqb, ltb-true, ltb-false, le-leb, leb-true}
 use Rattle.codec.specs.Choice.{pick, bit}
 use Rattle.codec.specs.Time.{ns, timeOk, elapsed, overdueOf}
 use Rattle.codec.specs.Ident.{identBytes}
@@ -18,9 +18,9 @@ use Rattle.framer.specs.declared.offer.Offer.{Offer}
 use Rattle.framer.specs.declared.meter.Meter.{Meter}
 use Rattle.framer.specs.declared.framer.Framer.{Framer}
 use Rattle.framer.specs.Meter.{limitsOk, soundMeter, Sound, emptyMeter, stateShown, itemOf, offsetFor, isWithin, closesFor, closedMeter, startOf, placedMeter, takenMeter}
-use Rattle.framer.specs.Framer.{emptyFramer, closed, itemSize, filledMeter, placed, added, add, passed, notTaken, takeOf}
+use Rattle.framer.specs.Framer.{closed, itemSize, filledMeter, placed, added, add, passed, notTaken, takeOf}
 use Rattle.framer.specs.Queue.{lengthAt}
-use Rattle.framer.proofs.FramerLaws.{sounds, sound-flag}
+use Rattle.framer.proofs.FramerLaws.{sounds, sound-flag, start-least, closed-size}
 use Rattle.codec.proofs.BoolLaws.{and-l, and-r}
 use Rattle.codec.proofs.Opened.{never}
 
@@ -165,31 +165,15 @@ room m t o n h e = go (eqb (m .filled) 0) refl
     go true g = rw g (omega (arith, item-most (m .lost) (offsetFor m t) o n))
     go false g = rw g (stays m t o n e g .1)
 
-start-sound : (m : Meter) → Sound m → 14 ≤ startOf m
-unfolding startOf
-start-sound m s = go (eqb (m .filled) 0) refl
-  where
-    go : (b : Bool) → eqb (m .filled) 0 ≡ b → 14 ≤ startOf m
-    go true g = rw g (omega arith)
-    go false g = let k : leb 14 (m .filled) ≡ true = rw g at (s .header) in rw g (leb-true 14 (m .filled) k)
-
 never-empty : (m : Meter) (t : Time) (o : Offer) (n : ℕ) → m .filled ≡ 0 → closesFor m t o n ≡ false
 unfolding closesFor
 never-empty m t o n e = rw (eq-eqb (m .filled) 0 e)
-
-closed-size : (m : Meter) → (closedMeter m .size ≡ m .size) × (closedMeter m .filled ≡ 0)
-unfolding closedMeter
-closed-size m = go (ltb (m .waiting) (m .room)) refl
-  where
-    go : (b : Bool) → ltb (m .waiting) (m .room) ≡ b → (closedMeter m .size ≡ m .size) × (closedMeter m .filled ≡ 0)
-    go true e = (rw e, rw e)
-    go false e = (rw e, rw e)
 
 kept-place : (w : Framer) (t : Time) (o : Offer) (payload : List ℕ) → Sound (w .meter) → timeOk t ≡ true → 14 + most o (length payload) ≤ w .meter .size
     → closesFor (w .meter) t o (length payload) ≡ false → Sound (placed w t o payload .meter)
 unfolding placed filledMeter
 kept-place w t o payload s g h e =
-    kept-placed (w .meter) t (itemSize (w .meter) t o (length payload)) s g (start-sound (w .meter) s) (room (w .meter) t o (length payload) h e)
+    kept-placed (w .meter) t (itemSize (w .meter) t o (length payload)) s g (start-least (w .meter) (sound-flag s)) (room (w .meter) t o (length payload) h e)
 
 kept-added : (w : Framer) (t : Time) (o : Offer) (payload : List ℕ) → Sound (w .meter) → timeOk t ≡ true → 14 + most o (length payload) ≤ w .meter .size
     → Sound (added w t o payload .meter)

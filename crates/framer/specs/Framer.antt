@@ -1,8 +1,7 @@
 -- The frame being filled, and the queue behind it (01, rules 1 to 3, 6 and 7).
-use Prim.Native.Nat.{ℕ, _+_, _-_, _*_, _≤_}
-use mathlib.Core.Bool.{Bool, true, false, not, _&&_}
-use mathlib.Core.List.{List, []}
-use mathlib.Core.Path.{_≡_}
+use Prim.Native.Nat.{ℕ, _-_}
+use mathlib.Core.Bool.{Bool, true, not, _&&_}
+use mathlib.Core.List.{List}
 use lib.ListN.{length, take, replicate}
 use lib.Dec.{ltb, leb, eqb}
 use Rattle.codec.specs.Choice.{pick}

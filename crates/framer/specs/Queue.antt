@@ -1,5 +1,5 @@
 -- Closed frames that wait (01, rules 3 and 7).
-use Prim.Native.Nat.{ℕ, _+_, _*_, min}
+use Prim.Native.Nat.{ℕ, _*_, min}
 use mathlib.Core.List.{List}
 use mathlib.Core.Bool.{_&&_}
 use lib.ListN.{length, getD, set, replicate}

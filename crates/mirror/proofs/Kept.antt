@@ -1,42 +1,41 @@
 -- The soundness rule: the engine before setup meets it, every call keeps it, and 19 is answered exactly where it is broken.
-use Prim.Native.Nat.{ℕ, zero, suc, _+_, _/_, _≤_, _<_}
-use mathlib.Core.Path.{_≡_, refl, sym, ap, _∙_}
+use Prim.Native.Nat.{ℕ, zero, suc, _/_, _≤_}
+use mathlib.Core.Path.{_≡_, refl}
 use mathlib.Core.Bool.{Bool, true, false, not, _&&_}
 use mathlib.Core.List.{List, [], _∷_}
 use native.Mathlib.Omega.{arith}
-use lib.ListN.{length, getD, set}
+use lib.ListN.{length, getD}
 use lib.Dec.{leb, eqb}
-use borrow.Author.Tests.{eqb-true, le-leb, leb-true}
+use borrow.Author.Tests.{eqb-true, le-leb}
 use Rattle.codec.specs.Choice.{pick}
 use Rattle.codec.specs.Time.{timeOk}
 use Rattle.codec.specs.declared.time.Time.{Time}
 use Rattle.codec.specs.declared.time.Millis.{Millis}
 use Rattle.framer.specs.declared.meter.Meter.{Meter}
 use Rattle.codec.proofs.BoolLaws.{and-l, and-r}
-use Rattle.framer.specs.Meter.{soundMeter, limitsOk, emptyMeter}
+use Rattle.framer.specs.Meter.{soundMeter, limitsOk}
 use Rattle.framer.specs.Framer.{emptyFramer, add, passed, takeOf}
 use Rattle.framer.specs.declared.framer.Framer.{Framer}
-use Rattle.framer.specs.declared.offer.Offer.{Offer}
 use Rattle.framer.proofs.FramerLaws.{sounds}
-use Rattle.framer.proofs.KeptLaws.{most, kept-empty, kept-add, kept-pass, kept-take}
-use Rattle.bus.specs.Source.{tickDue, stateOffer, calmed, addCause}
+use Rattle.framer.proofs.KeptLaws.{kept-empty, kept-add, kept-pass, kept-take}
+use Rattle.bus.specs.Source.{tickDue, stateOffer, addCause}
 use Rattle.bus.specs.Report.{reportCause, offerOf, settled}
 use Rattle.bus.specs.declared.source.Source.{Source}
 use Rattle.bus.specs.declared.report.Report.{Report}
 use Rattle.bus.specs.declared.update.Update.{Update}
 use Rattle.bus.specs.declared.filter.Addition.{Addition}
 use Rattle.bus.proofs.BusLaws.{cause-passed}
-use Rattle.mirror.specs.Engine.{freshEngine, soundOf, causeOf, answered, sourceAt, withSource, noSource, discardsOf}
+use Rattle.mirror.specs.Engine.{freshEngine, soundOf, causeOf, answered, sourceAt, withSource, noSource}
 use Rattle.mirror.specs.Setup.{sourcesOk, setupOf, resetOf, switchOf, offlineOf}
 use Rattle.mirror.specs.Source.{startOf, stopOf, updateOf, addOf, removeOf}
 use Rattle.mirror.specs.Report.{reported, reportOf}
 use Rattle.mirror.specs.Tick.{tickSource, statesOf, ticked, tickOf}
-use Rattle.mirror.specs.Take.{takenOf, outputOf}
+use Rattle.mirror.specs.Take.{takenOf}
 use Rattle.mirror.specs.Call.{Call, stepOf, runOf}
 use Rattle.mirror.specs.Call as Call
 use Rattle.mirror.specs.declared.engine.Engine.{Engine}
 use Rattle.mirror.specs.declared.engine.Outcome.{Outcome}
-use Rattle.mirror.proofs.MirrorLaws.{few-pairs}
+use Rattle.mirror.proofs.MirrorLaws.{few, few-pairs}
 
 -- the engine before setup
 pub fresh-sound : soundOf freshEngine ≡ true
@@ -48,10 +47,6 @@ pub sound-by : (n : ℕ) (sources : List Source) (w : Framer) → n ≤ 8 → so
     → soundOf (record { count = n; sources = sources; framer = w }) ≡ true
 unfolding soundOf
 sound-by n sources w h s = rw (le-leb n 8 h, s)
-
-counted : (e : Engine) → soundOf e ≡ true → e .count ≤ 8
-unfolding soundOf
-counted e s = leb-true (e .count) 8 (and-l (leb (e .count) 8) (soundMeter (e .framer .meter)) s)
 
 metered : (e : Engine) → soundOf e ≡ true → soundMeter (e .framer .meter) ≡ true
 unfolding soundOf
@@ -69,7 +64,7 @@ answered-sound e after cause s k = rw s (go (eqb cause 0) refl)
 -- one source changed
 with-sound : (e : Engine) (source : ℕ) (s : Source) (w : Framer) → soundOf e ≡ true → soundMeter (w .meter) ≡ true → soundOf (withSource e source s w) ≡ true
 unfolding withSource soundOf
-with-sound e source s w h g = rw (le-leb (e .count) 8 (counted e h), g)
+with-sound e source s w h g = rw (le-leb (e .count) 8 (few e h), g)
 
 -- reports: an accepted item fits an empty frame
 reported-sound : (e : Engine) (r : Report) (payload : List ℕ) → soundOf e ≡ true
@@ -119,8 +114,8 @@ unfolding tickSource
 source-sound e k t h g = go (tickDue (getD (e .sources) k noSource)) refl
   where
     go : (b : Bool) → tickDue (getD (e .sources) k noSource) ≡ b → soundOf (tickSource e k t) ≡ true
-    go true q = rw q (sound-by (e .count) _ _ (counted e h) (shown-sound e t (getD (e .sources) k noSource) h g))
-    go false q = rw q (sound-by (e .count) _ _ (counted e h) (metered e h))
+    go true q = rw q (sound-by (e .count) _ _ (few e h) (shown-sound e t (getD (e .sources) k noSource) h g))
+    go false q = rw q (sound-by (e .count) _ _ (few e h) (metered e h))
 
 states-sound : (n k : ℕ) (e : Engine) (t : Time) → soundOf e ≡ true → timeOk t ≡ true → soundOf (statesOf n k e t) ≡ true
 states-sound zero k e t h g = h
@@ -131,7 +126,7 @@ unfolding ticked
 ticked-sound e t h g =
     let x = statesOf (e .count) 0 e t in
     let s : soundOf x ≡ true = states-sound (e .count) 0 e t h g in
-    sound-by (x .count) (x .sources) (passed (x .framer) t) (counted x s) (kept-pass (x .framer) t (metered x s))
+    sound-by (x .count) (x .sources) (passed (x .framer) t) (few x s) (kept-pass (x .framer) t (metered x s))
 
 in-time : (b : Bool) → pick {A = ℕ} (not b) 7 0 ≡ 0 → b ≡ true
 in-time true e = refl
@@ -144,7 +139,7 @@ tick-sound e t s = answered-sound e (ticked e t) _ s (λ z. ticked-sound e t s (
 -- taking
 take-sound : (e : Engine) (n : ℕ) → soundOf e ≡ true → soundOf (takenOf e n .engine) ≡ true
 unfolding takenOf
-take-sound e n s = rw (le-leb (e .count) 8 (counted e s)) (sound-by (e .count) (e .sources) (takeOf (e .framer) n .framer) (counted e s) (kept-take (e .framer) n (metered e s)))
+take-sound e n s = rw (le-leb (e .count) 8 (few e s)) (sound-by (e .count) (e .sources) (takeOf (e .framer) n .framer) (few e s) (kept-take (e .framer) n (metered e s)))
 
 -- setup, switch and offline
 accepted : (b : Bool) → pick {A = ℕ} b 0 14 ≡ 0 → b ≡ true
@@ -161,7 +156,7 @@ setup-sound e size room deadline pairs s = answered-sound e _ _ s (λ z.
 
 reset-sound : (e : Engine) (size room : ℕ) (deadline : Millis) → soundOf e ≡ true → limitsOk size room (deadline .0) ≡ true → soundOf (resetOf e size room deadline) ≡ true
 unfolding resetOf emptyFramer
-reset-sound e size room deadline s g = sound-by (e .count) _ (emptyFramer size room deadline) (counted e s) (kept-empty size room deadline g)
+reset-sound e size room deadline s g = sound-by (e .count) _ (emptyFramer size room deadline) (few e s) (kept-empty size room deadline g)
 
 switch-sound : (e : Engine) (size room deadline : ℕ) → soundOf e ≡ true → soundOf (switchOf e size room deadline .engine) ≡ true
 unfolding switchOf

@@ -1,38 +1,34 @@
 -- Laws of the engine's definitions, over plain variables: each is one `returns` of the code.
-use Prim.Native.Nat.{ℕ, zero, suc, _+_, _-_, _*_, _/_, _%_, _≤_, _<_}
-use mathlib.Core.Path.{_≡_, refl, sym, ap, _∙_}
-use mathlib.Core.Bool.{Bool, true, false, not, _&&_, _||_}
+use Prim.Native.Nat.{ℕ, suc, _+_, _-_, _/_, _≤_, _<_}
+use mathlib.Core.Path.{_≡_, refl, ap, _∙_}
+use mathlib.Core.Bool.{Bool, true, false, not, _&&_}
 use mathlib.Core.List.{List, [], _∷_, _++_, map, map-append, append-assoc, append-nil}
 use native.Mathlib.Omega.{arith}
 use native.Mathlib.Numerals.{add-one}
-use lib.ListN.{length, getD, set, take, drop, length-drop, length-map, drop-of-length-le}
+use lib.ListN.{length, getD, set, take, drop, length-map, drop-of-length-le}
 use lib.Seq.{drop-cons, take-suc, set-at, length-take-le, take-all}
-use lib.Dec.{ltb, leb, eqb}
-use borrow.Author.Tests.{eq-eqb, ne-eqb, lt-ltb, le-ltb, lt-leb, le-leb, eqb-true, eqb-false, leb-true}
-use Rattle.codec.proofs.BoolLaws.{and-l, and-r}
+use lib.Dec.{leb, eqb}
+use borrow.Author.Tests.{eq-eqb, ne-eqb, lt-leb, le-leb, eqb-true, eqb-false, leb-true}
+use Rattle.codec.proofs.BoolLaws.{and-l}
 use Rattle.framer.proofs.KeptLaws.{limits}
-use Rattle.codec.specs.Choice.{pick}
-use Rattle.codec.specs.Number.{Below}
-use Rattle.codec.specs.Time.{timeOk}
 use Rattle.codec.specs.declared.time.Time.{Time}
 use Rattle.codec.specs.declared.time.Millis.{Millis}
 use Rattle.framer.specs.Meter.{limitsOk, soundMeter}
-use Rattle.framer.specs.Framer.{emptyFramer, add, passed, takeOf, outOf}
+use Rattle.framer.specs.Framer.{emptyFramer, add, passed}
 use Rattle.framer.specs.declared.framer.Framer.{Framer}
 use Rattle.framer.specs.declared.offer.Offer.{Offer}
 use Rattle.bus.specs.Source.{freeAt, addCause, addedFilter, tickDue, stateOffer, calmed, resetSource}
-use Rattle.bus.specs.Report.{reportCause, offerOf, settled}
+use Rattle.bus.specs.Report.{offerOf, settled}
 use Rattle.bus.specs.declared.source.Source.{Source}
 use Rattle.bus.specs.declared.filter.Addition.{Addition}
 use Rattle.bus.specs.declared.report.Report.{Report}
-use Rattle.mirror.specs.Engine.{soundOf, causeOf, answered, sourceCause, indexOf, noSource, noSources, sourceAt, withSource}
+use Rattle.mirror.specs.Engine.{soundOf, causeOf, answered, indexOf, noSource, noSources, sourceAt, withSource}
 use Rattle.mirror.specs.Setup.{sourceNumbered, pairOk, namedAgain, pairsOk, sourcesOk, named, setupOf, resetOf, switchOf, offlineOf}
 use Rattle.mirror.specs.Source.{storedOf, addOf}
-use Rattle.mirror.specs.Report.{reported, reportOf}
-use Rattle.mirror.specs.Tick.{tickSource, statesOf, ticked, tickOf}
+use Rattle.mirror.specs.Report.{reported}
+use Rattle.mirror.specs.Tick.{tickSource, statesOf, ticked}
 use Rattle.mirror.specs.declared.engine.Engine.{Engine}
 use Rattle.mirror.specs.declared.engine.Outcome.{Outcome}
-use Rattle.mirror.specs.declared.source.Added.{Added}
 
 -- 19 before all; another cause; done
 pub unsound : (e : Engine) (cause : ℕ) (after : Engine) → soundOf e ≡ false → record { engine = e; answer = 19 } ≡ answered e (causeOf e cause) after

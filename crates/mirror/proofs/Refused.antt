@@ -1,13 +1,12 @@
 -- Demand 1: a refused call changes neither the engine nor one byte of a lent buffer, and the numbers beside it are 0; 19 is
 -- answered exactly where the soundness rule is broken.
 use Prim.Native.Nat.{ℕ, _<_}
-use mathlib.Core.Path.{_≡_, refl, sym, ap, _∙_}
+use mathlib.Core.Path.{_≡_, refl, ap}
 use mathlib.Core.Bool.{Bool, true, false, not, _&&_}
 use mathlib.Core.List.{List, []}
 use native.Mathlib.Omega.{arith}
 use lib.ListN.{length, getD}
 use lib.Dec.{leb, ltb, eqb}
-use borrow.Author.Tests.{eqb-true, eq-eqb, ne-eqb}
 use Rattle.codec.specs.Choice.{pick}
 use Rattle.codec.specs.Time.{timeOk}
 use Rattle.codec.specs.Ident.{kindOf, mostOf}
@@ -15,9 +14,8 @@ use Rattle.codec.proofs.BoolLaws.{and-l, and-r}
 use Rattle.framer.proofs.KeptLaws.{clash}
 use Rattle.framer.specs.Meter.{soundMeter, limitsOk}
 use Rattle.framer.specs.Queue.{lengthAt}
-use Rattle.framer.specs.Framer.{notTaken, takeOf, outOf}
+use Rattle.framer.specs.Framer.{takeOf, outOf}
 use Rattle.framer.specs.declared.framer.Framer.{Framer}
-use Rattle.framer.specs.declared.framer.Taken.{Taken}
 use Rattle.bus.specs.Filter.{sameKind, isFree}
 use Rattle.bus.specs.Source.{passes, freeAt, freePlace, addCause, addedFilter, removeCause}
 use Rattle.bus.specs.Report.{reportCause, earlyCause, lateCause, tooBig}
@@ -32,7 +30,7 @@ use Rattle.mirror.specs.Source.{startOf, stopOf, updateOf, addOf, remove
 use Rattle.mirror.specs.Report.{reportOf}
 use Rattle.mirror.specs.Tick.{tickOf}
 use Rattle.mirror.specs.Take.{takenOf, outputOf}
-use Rattle.mirror.specs.Call.{Call, Said, Step, stepOf}
+use Rattle.mirror.specs.Call.{Call, Step, stepOf}
 use Rattle.mirror.specs.Call as Call
 use Rattle.mirror.specs.declared.engine.Engine.{Engine}
 use Rattle.mirror.specs.declared.engine.Outcome.{Outcome}

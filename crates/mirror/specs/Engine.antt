@@ -1,6 +1,6 @@
 -- The engine's own record, and what every call has in common (01, "What the engine does", "Engine answer numbers").
 use Prim.Native.Nat.{ℕ}
-use mathlib.Core.Bool.{Bool, true, false, _&&_}
+use mathlib.Core.Bool.{Bool, false, _&&_}
 use mathlib.Core.List.{List, []}
 use lib.ListN.{getD, set, replicate}
 use lib.Dec.{ltb, leb, eqb}

@@ -1,4 +1,3 @@
-use mathlib.Core.Path.{_≡_, refl, sym, ap, _∙_}
 use Rattle.framer.specs.Framer.{begun, written}
 use Rattle.framer.specs.Meter.{startOf}
 use borrow.Author.Tests.{eq-eqb, ne-eqb}

@@ -1,4 +1,4 @@
-use mathlib.Core.Path.{_≡_, refl, sym, ap, _∙_}
+use mathlib.Core.Path.{_∙_}
 use Rattle.framer.specs.Framer.{laidOut, written}
 use borrow.Author.Needs.{needs}
 use Rattle.framer.proofs.framer.lay.Statement.{statement}

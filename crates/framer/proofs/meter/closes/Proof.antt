@@ -1,7 +1,7 @@
-use mathlib.Core.Path.{_≡_, refl, sym, ap, _∙_}
+use mathlib.Core.Path.{sym, ap, _∙_}
 use Rattle.framer.specs.Meter.{isWithin}
 use Rattle.codec.specs.Item.{itemLength}
-use borrow.Author.Tests.{eq-eqb, ne-eqb, lt-ltb, le-ltb, not-true, not-false}
+use borrow.Author.Tests.{not-true, not-false}
 use Rattle.framer.proofs.FramerLaws.{closes-never, closes-far, closes-over, closes-by}
 use borrow.Author.Needs.{needs}
 use Rattle.framer.proofs.meter.closes.Statement.{statement}

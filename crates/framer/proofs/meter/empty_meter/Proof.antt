@@ -1,4 +1,4 @@
-use mathlib.Core.Path.{_≡_, refl, sym, ap, _∙_}
+use mathlib.Core.Path.{refl}
 use Rattle.framer.specs.Meter.{emptyMeter}
 use Rattle.framer.proofs.meter.empty_meter.Statement.{statement}
 use Rattle.framer.proofs.meter.empty_meter.Tie as tie

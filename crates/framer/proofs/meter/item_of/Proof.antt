@@ -1,4 +1,3 @@
-use mathlib.Core.Path.{_≡_, refl, sym, ap, _∙_}
 use Rattle.framer.specs.Meter.{itemOf}
 use borrow.Author.Needs.{needs}
 use Rattle.framer.proofs.meter.item_of.Statement.{statement}

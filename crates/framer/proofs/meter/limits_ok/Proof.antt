@@ -1,4 +1,4 @@
-use mathlib.Core.Path.{_≡_, refl, sym, ap, _∙_}
+use mathlib.Core.Path.{refl}
 use Rattle.framer.specs.Meter.{limitsOk}
 use Rattle.framer.proofs.meter.limits_ok.Statement.{statement}
 use Rattle.framer.proofs.meter.limits_ok.Tie as tie

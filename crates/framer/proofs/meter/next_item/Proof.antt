@@ -1,4 +1,3 @@
-use mathlib.Core.Path.{_≡_, refl, sym, ap, _∙_}
 use borrow.Author.Needs.{needs}
 use Rattle.framer.proofs.meter.next_item.Statement.{statement}
 use Rattle.framer.proofs.meter.next_item.Tie as tie

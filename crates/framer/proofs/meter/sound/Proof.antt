@@ -1,4 +1,3 @@
-use mathlib.Core.Path.{_≡_, refl, sym, ap, _∙_}
 use Rattle.framer.specs.Meter.{soundMeter}
 use borrow.Author.Needs.{needs}
 use Rattle.framer.proofs.meter.sound.Statement.{statement}

@@ -1,4 +1,3 @@
-use mathlib.Core.Path.{_≡_, refl, sym, ap, _∙_}
 use Rattle.framer.specs.Meter.{stateShown}
 use Rattle.framer.proofs.meter.state_shown.Statement.{statement}
 use Rattle.framer.proofs.meter.state_shown.Tie as tie

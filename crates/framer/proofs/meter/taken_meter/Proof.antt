@@ -1,4 +1,3 @@
-use mathlib.Core.Path.{_≡_, refl, sym, ap, _∙_}
 use Rattle.framer.proofs.FramerLaws.{next-slot}
 use Rattle.framer.specs.Meter.{takenMeter}
 use borrow.Author.Tests.{eq-eqb, ne-eqb}

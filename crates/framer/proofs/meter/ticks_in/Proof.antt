@@ -1,4 +1,4 @@
-use mathlib.Core.Path.{_≡_, refl, sym, ap, _∙_}
+use mathlib.Core.Path.{sym, ap}
 use Rattle.framer.specs.Meter.{ticksIn}
 use borrow.Author.Needs.{needs}
 use Rattle.framer.proofs.meter.ticks_in.Statement.{statement}

@@ -1,4 +1,4 @@
-use mathlib.Core.Path.{_≡_, refl, sym, ap, _∙_}
+use mathlib.Core.Path.{refl}
 use Rattle.framer.specs.Queue.{emptyQueue}
 use Rattle.framer.proofs.queue.empty_queue.Statement.{statement}
 use Rattle.framer.proofs.queue.empty_queue.Tie as tie

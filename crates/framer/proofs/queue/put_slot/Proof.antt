@@ -1,4 +1,3 @@
-use mathlib.Core.Path.{_≡_, refl, sym, ap, _∙_}
 use Rattle.codec.proofs.NumberLaws.{kept}
 use borrow.Author.Needs.{needs}
 use native.Mathlib.Omega.{arith}

@@ -1,4 +1,3 @@
-use mathlib.Core.Path.{_≡_, refl, sym, ap, _∙_}
 use borrow.Author.Needs.{needs}
 use Rattle.mirror.proofs.engine.sound.Statement.{statement}
 use Rattle.mirror.proofs.engine.sound.Tie as tie

@@ -1,4 +1,3 @@
-use mathlib.Core.Path.{_≡_, refl, sym, ap, _∙_}
 use Rattle.mirror.specs.Setup.{kindNumbered}
 use borrow.Author.Tests.{eq-eqb, ne-eqb}
 use Rattle.mirror.proofs.setup.kind_numbered.Statement.{statement}

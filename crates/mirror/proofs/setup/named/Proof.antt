@@ -1,6 +1,6 @@
-use mathlib.Core.Path.{_≡_, refl, sym, ap, _∙_}
+use mathlib.Core.Path.{_≡_, refl, sym, _∙_}
 use Rattle.bus.proofs.BusLaws.{length-mapped}
-use Prim.Native.Nat.{_-_, _+_, _*_, _≤_, _<_}
+use Prim.Native.Nat.{_-_, _*_, _≤_}
 use lib.ListN.{length, drop, length-set}
 use Rattle.mirror.specs.Setup.{named}
 use Rattle.mirror.proofs.MirrorLaws.{named-next, named-end}

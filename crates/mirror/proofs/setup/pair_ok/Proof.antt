@@ -1,4 +1,4 @@
-use mathlib.Core.Path.{_≡_, refl, sym, ap, _∙_}
+use mathlib.Core.Path.{refl}
 use Rattle.mirror.specs.Setup.{pairOk}
 use Rattle.mirror.proofs.setup.pair_ok.Statement.{statement}
 use Rattle.mirror.proofs.setup.pair_ok.Tie as tie

@@ -1,5 +1,5 @@
-use mathlib.Core.Path.{_≡_, refl, sym, ap, _∙_}
-use Prim.Native.Nat.{_-_, _≤_, _<_}
+use mathlib.Core.Path.{_≡_, refl, sym, _∙_}
+use Prim.Native.Nat.{_-_, _≤_}
 use lib.ListN.{length, drop}
 use Rattle.mirror.specs.Setup.{pairsOk}
 use Rattle.mirror.proofs.MirrorLaws.{pairs-bad, pairs-again, pairs-next, pairs-end}

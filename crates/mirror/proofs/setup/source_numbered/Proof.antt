@@ -1,4 +1,3 @@
-use mathlib.Core.Path.{_≡_, refl, sym, ap, _∙_}
 use Rattle.mirror.specs.Setup.{sourceNumbered}
 use borrow.Author.Needs.{needs}
 use Rattle.mirror.proofs.setup.source_numbered.Statement.{statement}

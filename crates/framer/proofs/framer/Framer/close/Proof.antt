@@ -1,4 +1,4 @@
-use mathlib.Core.Path.{_≡_, refl, sym, ap, _∙_}
+use mathlib.Core.Path.{_≡_, refl, sym}
 use Rattle.framer.proofs.FramerLaws.{close-kept, close-lost}
 use lib.Seq.{length-take-le}
 use lib.ListN.{length}

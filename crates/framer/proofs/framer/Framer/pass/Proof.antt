@@ -1,4 +1,4 @@
-use mathlib.Core.Path.{_≡_, refl, sym, ap, _∙_}
+use mathlib.Core.Path.{refl, sym, _∙_}
 use Rattle.framer.proofs.FramerLaws.{pass-unsound, pass-empty, pass-by, small}
 use borrow.Author.Tests.{not-true, not-false}
 use borrow.Author.Needs.{needs}

@@ -1,4 +1,4 @@
-use mathlib.Core.Path.{_≡_, refl, sym, ap, _∙_}
+use mathlib.Core.Path.{sym, _∙_}
 use Rattle.framer.proofs.FramerLaws.{take-unsound, take-none, take-short, take-done, sounds}
 use borrow.Author.Tests.{not-true, not-false}
 use borrow.Author.Needs.{needs}

@@ -1,4 +1,3 @@
-use mathlib.Core.Path.{_≡_, refl, sym, ap, _∙_}
 use Rattle.framer.proofs.FramerLaws.{put-long, put-past, put-in}
 use borrow.Author.Needs.{needs}
 use Rattle.framer.proofs.queue.Queue.put.Statement.{statement}

@@ -1,4 +1,4 @@
-use mathlib.Core.Path.{_≡_, refl, sym, ap, _∙_}
+use mathlib.Core.Path.{refl}
 use Rattle.mirror.specs.Engine.{causeOf, soundOf}
 use Rattle.mirror.proofs.MirrorLaws.{add-refused, add-done}
 use borrow.Author.Needs.{needs}

@@ -1,4 +1,4 @@
-use mathlib.Core.Path.{_≡_, refl, sym, ap, _∙_}
+use mathlib.Core.Path.{sym, _∙_}
 use Rattle.mirror.specs.Engine.{discardsOf, soundOf}
 use borrow.Author.Tests.{not-true, not-false}
 use borrow.Author.Needs.{needs}

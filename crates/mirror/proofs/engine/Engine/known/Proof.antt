@@ -1,4 +1,3 @@
-use mathlib.Core.Path.{_≡_, refl, sym, ap, _∙_}
 use Rattle.mirror.specs.Engine.{causeOf, sourceCause, soundOf}
 use borrow.Author.Needs.{needs}
 use Rattle.mirror.proofs.engine.Engine.known.Statement.{statement}

@@ -1,4 +1,4 @@
-use mathlib.Core.Path.{_≡_, refl, sym, ap, _∙_}
+use mathlib.Core.Path.{_∙_}
 use borrow.Author.Needs.{needs}
 use Rattle.mirror.proofs.engine.Engine.lin_range.Statement.{statement}
 use Rattle.mirror.proofs.engine.Engine.lin_range.Tie as tie

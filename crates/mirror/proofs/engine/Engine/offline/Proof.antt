@@ -1,4 +1,4 @@
-use mathlib.Core.Path.{_≡_, refl, sym, ap, _∙_}
+use mathlib.Core.Path.{sym, _∙_}
 use Rattle.mirror.specs.Engine.{soundOf}
 use Rattle.mirror.specs.Setup.{offlineOf}
 use Rattle.mirror.proofs.MirrorLaws.{unsound, offline-before, offline-done}

@@ -1,6 +1,5 @@
-use mathlib.Core.Path.{_≡_, refl, sym, ap, _∙_}
+use mathlib.Core.Path.{refl, _∙_}
 use Rattle.mirror.specs.Source.{removeOf}
-use Rattle.mirror.specs.Engine.{causeOf, sourceCause}
 use Rattle.mirror.proofs.MirrorLaws.{stored-by, source-is}
 use Rattle.bus.specs.Source.{removedFilter}
 use borrow.Author.Needs.{needs}

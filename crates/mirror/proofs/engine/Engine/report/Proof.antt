@@ -1,8 +1,6 @@
-use mathlib.Core.Path.{_≡_, refl, sym, ap, _∙_}
+use mathlib.Core.Path.{refl, sym, _∙_}
 use Rattle.mirror.specs.Report.{reportOf}
 use Rattle.mirror.specs.Engine.{soundOf}
-use Rattle.bus.specs.Report.{reportCause}
-use lib.ListN.{length}
 use Rattle.mirror.proofs.MirrorLaws.{unsound, refused, done, reported-by, source-is}
 use borrow.Author.Tests.{not-true, not-false}
 use borrow.Author.Needs.{needs}

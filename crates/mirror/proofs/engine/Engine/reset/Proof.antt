@@ -1,4 +1,3 @@
-use mathlib.Core.Path.{_≡_, refl, sym, ap, _∙_}
 use Rattle.mirror.proofs.MirrorLaws.{reset-by}
 use borrow.Author.Needs.{needs}
 use Rattle.mirror.proofs.engine.Engine.reset.Statement.{statement}

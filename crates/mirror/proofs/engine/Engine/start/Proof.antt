@@ -1,4 +1,4 @@
-use mathlib.Core.Path.{_≡_, refl, sym, ap, _∙_}
+use mathlib.Core.Path.{refl}
 use Rattle.mirror.specs.Source.{startOf}
 use Rattle.mirror.proofs.MirrorLaws.{stored-by}
 use Rattle.bus.specs.Source.{startedSource}

@@ -1,5 +1,5 @@
-use mathlib.Core.Path.{_≡_, refl, sym, ap, _∙_}
-use Prim.Native.Nat.{_-_, _≤_, _<_}
+use mathlib.Core.Path.{_≡_, sym, _∙_}
+use Prim.Native.Nat.{_-_, _≤_}
 use Rattle.mirror.specs.Tick.{statesOf}
 use Rattle.mirror.proofs.MirrorLaws.{states-start, states-step, states-end}
 use borrow.Author.Needs.{needs}

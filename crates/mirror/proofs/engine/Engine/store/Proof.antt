@@ -1,4 +1,3 @@
-use mathlib.Core.Path.{_≡_, refl, sym, ap, _∙_}
 use Rattle.mirror.specs.Engine.{answered}
 use Rattle.mirror.specs.Source.{storedOf}
 use borrow.Author.Tests.{eq-eqb, ne-eqb}

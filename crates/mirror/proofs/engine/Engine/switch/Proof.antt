@@ -1,10 +1,10 @@
-use mathlib.Core.Path.{_≡_, refl, sym, ap, _∙_}
+use mathlib.Core.Path.{sym, _∙_}
 use Rattle.mirror.specs.Engine.{soundOf}
 use Rattle.mirror.specs.Setup.{switchOf}
 use Rattle.mirror.proofs.MirrorLaws.{unsound, switch-refused, switch-done, short}
 use borrow.Author.Tests.{not-true, not-false}
-use Rattle.codec.proofs.BoolLaws.{and-l, and-r}
-use mathlib.Core.Bool.{not, _&&_}
+use Rattle.codec.proofs.BoolLaws.{and-r}
+use mathlib.Core.Bool.{not}
 use lib.Dec.{eqb}
 use borrow.Author.Needs.{needs}
 use Rattle.mirror.proofs.engine.Engine.switch.Statement.{statement}

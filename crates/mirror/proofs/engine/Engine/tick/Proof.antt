@@ -1,8 +1,7 @@
-use mathlib.Core.Path.{_≡_, refl, sym, ap, _∙_}
+use mathlib.Core.Path.{sym, _∙_}
 use Rattle.mirror.specs.Tick.{tickOf}
 use Rattle.mirror.specs.Engine.{soundOf}
 use Rattle.mirror.proofs.MirrorLaws.{unsound, refused, done, ticked-by}
-use Rattle.codec.specs.Choice.{pick}
 use borrow.Author.Tests.{not-true, not-false}
 use Rattle.mirror.proofs.MirrorLaws.{few}
 use borrow.Author.Needs.{needs}

@@ -1,4 +1,4 @@
-use mathlib.Core.Path.{_≡_, refl, sym, ap, _∙_}
+use mathlib.Core.Path.{refl, sym, _∙_}
 use Rattle.mirror.proofs.MirrorLaws.{tick-quiet, tick-shown}
 use borrow.Author.Tests.{not-true, not-false}
 use borrow.Author.Needs.{needs}

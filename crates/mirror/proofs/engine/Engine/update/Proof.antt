@@ -1,8 +1,8 @@
-use mathlib.Core.Path.{_≡_, refl, sym, ap, _∙_}
+use mathlib.Core.Path.{refl}
 use Rattle.mirror.specs.Source.{updateOf}
 use Rattle.mirror.specs.Engine.{causeOf, soundOf}
 use Rattle.mirror.proofs.MirrorLaws.{stored-by, source-is}
-use Rattle.bus.specs.Update.{updated, updateCause}
+use Rattle.bus.specs.Update.{updated}
 use borrow.Author.Needs.{needs}
 use Rattle.mirror.proofs.engine.Engine.update.Statement.{statement}
 use Rattle.mirror.proofs.engine.Engine.update.Tie as tie
