@@ -1,6 +1,6 @@
 -- Reports (01, "Engine answer numbers", "Frame bytes", rules 4 and 5).
 use Prim.Native.Nat.{ℕ, _+_, _%_}
-use mathlib.Core.Bool.{Bool, true, not, _&&_, _||_}
+use mathlib.Core.Bool.{Bool, true, false, not, _&&_, _||_}
 use lib.Dec.{leb, ltb}
 use lib.Bits.{bitAnd, bitOr}
 use Rattle.codec.specs.Choice.{pick}
@@ -41,7 +41,7 @@ linReport source t pid errors = record {
   raised = errors % 256;
 }
 
--- a FlexRay frame carries id and payload, a conflict id and state, and raises the Tx conflict bit, bit 0 (SWS_Mirror_00094)
+-- what reports of FlexRay have in common
 unfoldable pub flexrayReport : ℕ → Time → ℕ → ℕ → ℕ → Bool → ℕ → ℕ → Report
 flexrayReport source t channels slot cycle carries kept raised = record {
   source = source;
@@ -52,6 +52,14 @@ flexrayReport source t channels slot cycle carries kept raised = record {
   kept = kept;
   raised = raised;
 }
+
+-- a FlexRay frame carries id and payload and has no frame-bound state (rule 5)
+abbrev pub frameReport : ℕ → Time → ℕ → ℕ → ℕ → Report
+frameReport source t channels slot cycle = flexrayReport source t channels slot cycle true 255 0
+
+-- a conflict carries id and state, and raises the Tx conflict bit, bit 0 (rules 4 and 5; SWS_Mirror_00094)
+abbrev pub conflictReport : ℕ → Time → ℕ → ℕ → ℕ → Report
+conflictReport source t channels slot cycle = flexrayReport source t channels slot cycle false 254 1
 
 -- the item, counted with a state byte, plus 14 exceeds F (answer 8)
 unfoldable pub tooBig : ℕ → Report → ℕ → Bool

@@ -10,7 +10,7 @@ use framer::offer::Offer;
 ghost use mathlib.Core.Path.{_≡_};
 ghost use mathlib.Core.Bool.{true, false};
 ghost use Rattle.codec.specs.Ident.{flexrayRange};
-ghost use Rattle.bus.specs.Report.{canReport, linReport, flexrayReport, tooBig, earlyCause, lateCause, reportCause, noted, offerOf, settled};
+ghost use Rattle.bus.specs.Report.{canReport, linReport, flexrayReport, frameReport, conflictReport, tooBig, earlyCause, lateCause, reportCause, noted, offerOf, settled};
 
 pub struct Report {
     pub source: u64,
@@ -88,13 +88,13 @@ fn flexray_report(
 }
 
 pub fn flexray(source: u64, time: Time, channels: u32, slot: u32, cycle: u32) -> Report
-    ensures { λ r. ⌜ r ≡ flexrayReport source time channels slot cycle true 255 0 ⌝ }
+    ensures { λ r. ⌜ r ≡ frameReport source time channels slot cycle ⌝ }
 {
     flexray_report(source, time, channels, slot, cycle, true, 255, 0)
 }
 
 pub fn conflict(source: u64, time: Time, channels: u32, slot: u32, cycle: u32) -> Report
-    ensures { λ r. ⌜ r ≡ flexrayReport source time channels slot cycle false 254 1 ⌝ }
+    ensures { λ r. ⌜ r ≡ conflictReport source time channels slot cycle ⌝ }
 {
     flexray_report(source, time, channels, slot, cycle, false, 254, 1)
 }

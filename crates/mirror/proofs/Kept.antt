@@ -48,7 +48,7 @@ pub sound-by : (n : ℕ) (sources : List Source) (w : Framer) → n ≤ 8 → so
 unfolding soundOf
 sound-by n sources w h s = rw (le-leb n 8 h, s)
 
-metered : (e : Engine) → soundOf e ≡ true → soundMeter (e .framer .meter) ≡ true
+pub metered : (e : Engine) → soundOf e ≡ true → soundMeter (e .framer .meter) ≡ true
 unfolding soundOf
 metered e s = and-r (leb (e .count) 8) (soundMeter (e .framer .meter)) s
 
@@ -139,7 +139,7 @@ tick-sound e t s = answered-sound e (ticked e t) _ s (λ z. ticked-sound e t s (
 -- taking
 take-sound : (e : Engine) (n : ℕ) → soundOf e ≡ true → soundOf (takenOf e n .engine) ≡ true
 unfolding takenOf
-take-sound e n s = rw (le-leb (e .count) 8 (few e s)) (sound-by (e .count) (e .sources) (takeOf (e .framer) n .framer) (few e s) (kept-take (e .framer) n (metered e s)))
+take-sound e n s = rw s (sound-by (e .count) (e .sources) (takeOf (e .framer) n .framer) (few e s) (kept-take (e .framer) n (metered e s)))
 
 -- setup, switch and offline
 accepted : (b : Bool) → pick {A = ℕ} b 0 14 ≡ 0 → b ≡ true

@@ -1,5 +1,5 @@
 pub mod MirrorLaws
 pub mod Kept
 pub mod Refused
-pub mod Unique
 pub mod Vectors
+pub mod Unique

@@ -10,8 +10,7 @@ use lib.Dec.{leb, ltb, eqb}
 use Rattle.codec.specs.Choice.{pick}
 use Rattle.codec.specs.Time.{timeOk}
 use Rattle.codec.specs.Ident.{kindOf, mostOf}
-use Rattle.codec.proofs.BoolLaws.{and-l, and-r}
-use Rattle.framer.proofs.KeptLaws.{clash}
+use Rattle.mirror.proofs.Kept.{metered}
 use Rattle.framer.specs.Meter.{soundMeter, limitsOk}
 use Rattle.framer.specs.Queue.{lengthAt}
 use Rattle.framer.specs.Framer.{takeOf, outOf}
@@ -97,9 +96,9 @@ took w out n = go (soundMeter (w .meter)) (eqb (w .meter .waiting) 0) (ltb (leng
 taken : (e : Engine) (out : List ℕ) → (takenOf e (length out) .answer ≡ 0 → ⊥)
     → (takenOf e (length out) .engine ≡ e) × (takenOf e (length out) .length ≡ 0) × (outputOf e out ≡ out)
 unfolding takenOf outputOf
-taken e out n = go (leb (e .count) 8) refl
+taken e out n = go (soundOf e) refl
   where
-    go : (b : Bool) → leb (e .count) 8 ≡ b → (takenOf e (length out) .engine ≡ e) × (takenOf e (length out) .length ≡ 0) × (outputOf e out ≡ out)
+    go : (b : Bool) → soundOf e ≡ b → (takenOf e (length out) .engine ≡ e) × (takenOf e (length out) .length ≡ 0) × (outputOf e out ≡ out)
     go false q = (rw q, rw q, rw q)
     go true q =
         let t = took (e .framer) out (λ z. n (rw q z)) in
@@ -148,13 +147,8 @@ unfolding addOf causeOf
 added-19 e a s = rw s
 
 taken-19 : (e : Engine) (n : ℕ) → soundOf e ≡ false → takenOf e n .answer ≡ 19
-unfolding takenOf takeOf soundOf
-taken-19 e n s = go (leb (e .count) 8) (soundMeter (e .framer .meter)) refl refl
-  where
-    go : (a b : Bool) → leb (e .count) 8 ≡ a → soundMeter (e .framer .meter) ≡ b → takenOf e n .answer ≡ 19
-    go false b p q = rw p
-    go true false p q = rw (p, q)
-    go true true p q = clash (rw (p, q) at s)
+unfolding takenOf
+taken-19 e n s = rw s
 
 -- else a number below it
 below : (b : Bool) (k r : ℕ) → k < 19 → r < 19 → pick b k r < 19
@@ -219,18 +213,18 @@ added-below e a s = rw s (go (eqb (addCause (e .count) (sourceAt e (a .source)) 
     go true = omega arith
     go false = add-below (e .count) (sourceAt e (a .source)) a
 
-taken-below : (e : Engine) (n : ℕ) → soundOf e ≡ true → takenOf e n .answer < 19
-unfolding takenOf takeOf soundOf
-taken-below e n s =
-    let c : leb (e .count) 8 ≡ true = and-l (leb (e .count) 8) (soundMeter (e .framer .meter)) s in
-    let m : soundMeter (e .framer .meter) ≡ true = and-r (leb (e .count) 8) (soundMeter (e .framer .meter)) s in
-    go (eqb (e .framer .meter .waiting) 0) (ltb n (lengthAt (e .framer .queue) (e .framer .meter .first))) c m refl refl
+took-below : (w : Framer) (n : ℕ) → soundMeter (w .meter) ≡ true → takeOf w n .answer < 19
+unfolding takeOf
+took-below w n m = go (eqb (w .meter .waiting) 0) (ltb n (lengthAt (w .queue) (w .meter .first))) refl refl
   where
-    go : (a b : Bool) → leb (e .count) 8 ≡ true → soundMeter (e .framer .meter) ≡ true → eqb (e .framer .meter .waiting) 0 ≡ a
-        → ltb n (lengthAt (e .framer .queue) (e .framer .meter .first)) ≡ b → takenOf e n .answer < 19
-    go true b c m p q = rw (c, m, p) (omega arith)
-    go false true c m p q = rw (c, m, p, q) (omega arith)
-    go false false c m p q = rw (c, m, p, q) (omega arith)
+    go : (a b : Bool) → eqb (w .meter .waiting) 0 ≡ a → ltb n (lengthAt (w .queue) (w .meter .first)) ≡ b → takeOf w n .answer < 19
+    go true b p q = rw (m, p) (omega arith)
+    go false true p q = rw (m, p, q) (omega arith)
+    go false false p q = rw (m, p, q) (omega arith)
+
+taken-below : (e : Engine) (n : ℕ) → soundOf e ≡ true → takenOf e n .answer < 19
+unfolding takenOf
+taken-below e n s = rw s (took-below (e .framer) n (metered e s))
 
 pub broken : (e : Engine) (c : Call) → soundOf e ≡ false → stepOf e c .said .answer ≡ 19
 unfolding setupOf switchOf offlineOf startOf stopOf reportOf updateOf removeOf tickOf discardsOf

@@ -1,11 +1,11 @@
 -- The engine's calls as one kind of thing, and what a list of them comes to. Each clause is the contract of one public
 -- function; nothing else is said here.
 use Prim.Native.Nat.{ℕ}
-use mathlib.Core.Bool.{Bool, true, false}
+use mathlib.Core.Bool.{Bool}
 use mathlib.Core.List.{List, [], _∷_}
 use lib.ListN.{length}
 use Rattle.codec.specs.declared.time.Time.{Time}
-use Rattle.bus.specs.Report.{canReport, linReport, flexrayReport}
+use Rattle.bus.specs.Report.{canReport, linReport, frameReport, conflictReport}
 use Rattle.bus.specs.Update.{canUpdate, linUpdate, flexrayUpdate}
 use Rattle.bus.specs.Filter.{canMask, canRange, linMask, linRange, slotsOf}
 use Rattle.mirror.specs.Engine.{discardsOf}
@@ -67,8 +67,8 @@ stepOf e (start source) = plain (startOf e source)
 stepOf e (stop source) = plain (stopOf e source)
 stepOf e (can source t key payload) = plain (reportOf e (canReport source t key) payload)
 stepOf e (lin source t pid errors payload) = plain (reportOf e (linReport source t pid errors) payload)
-stepOf e (flexray source t channels slot cycle payload) = plain (reportOf e (flexrayReport source t channels slot cycle true 255 0) payload)
-stepOf e (conflict source t channels slot cycle) = plain (reportOf e (flexrayReport source t channels slot cycle false 254 1) [])
+stepOf e (flexray source t channels slot cycle payload) = plain (reportOf e (frameReport source t channels slot cycle) payload)
+stepOf e (conflict source t channels slot cycle) = plain (reportOf e (conflictReport source t channels slot cycle) [])
 stepOf e (can-state source online passive busOff counter) = plain (updateOf e (canUpdate source online passive busOff counter))
 stepOf e (lin-state source online) = plain (updateOf e (linUpdate source online))
 stepOf e (flexray-state source online bits) = plain (updateOf e (flexrayUpdate source online bits))

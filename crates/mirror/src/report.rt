@@ -4,9 +4,8 @@ use crate::engine::Outcome;
 use bus::report::Report;
 use codec::time::Time;
 ghost use mathlib.Core.Path.{_≡_};
-ghost use mathlib.Core.Bool.{true, false};
 ghost use mathlib.Core.List.{[]};
-ghost use Rattle.bus.specs.Report.{canReport, linReport, flexrayReport};
+ghost use Rattle.bus.specs.Report.{canReport, linReport, frameReport, conflictReport};
 ghost use Rattle.mirror.specs.Report.{reportOf};
 
 impl Engine {
@@ -59,7 +58,7 @@ impl Engine {
         cycle: u32,
         payload: &[u8],
     ) -> Outcome
-        ensures { λ o. ⌜ o ≡ reportOf self (flexrayReport source time channels slot cycle true 255 0) (now (payload .entry)) ⌝ }
+        ensures { λ o. ⌜ o ≡ reportOf self (frameReport source time channels slot cycle) (now (payload .entry)) ⌝ }
     {
         self.report(
             bus::report::flexray(source, time, channels, slot, cycle),
@@ -68,7 +67,7 @@ impl Engine {
     }
 
     pub fn conflict(self, source: u64, time: Time, channels: u32, slot: u32, cycle: u32) -> Outcome
-        ensures { λ o. ⌜ o ≡ reportOf self (flexrayReport source time channels slot cycle false 254 1) [] ⌝ }
+        ensures { λ o. ⌜ o ≡ reportOf self (conflictReport source time channels slot cycle) [] ⌝ }
     {
         self.report(
             bus::report::conflict(source, time, channels, slot, cycle),

@@ -16,7 +16,8 @@ impl Engine {
         ensures { λ r. ⌜ r ≡ takenOf self (length (now (out .entry))) ⌝ }
         ensures { λ _. ⌜ now (out .exit) ≡ outputOf self (now (out .entry)) ⌝ }
     {
-        if 8 < self.count {
+        let m = self.framer.meter;
+        if !crate::engine::sound(self.count, m) {
             return Taken {
                 engine: self,
                 answer: 19,
