@@ -6,7 +6,7 @@ use mathlib.Core.List.{List}
 use native.Mathlib.Omega.{arith}
 use lib.ListN.{length}
 use lib.Dec.{ltb, leb, eqb}
-use borrow.Author.Tests.{eq-eqb, ne-eqb, ltb-true, ltb-false, le-leb, leb-true}
+use borrow.Author.Tests.{ne-eqb, ltb-true, ltb-false, le-leb, leb-true}
 use Rattle.codec.specs.Choice.{pick, bit}
 use Rattle.codec.specs.Time.{ns, timeOk, elapsed, overdueOf}
 use Rattle.codec.specs.Ident.{identBytes}
@@ -20,7 +20,7 @@ use Rattle.framer.specs.declared.framer.Framer.{Framer}
 use Rattle.framer.specs.Meter.{limitsOk, soundMeter, Sound, emptyMeter, stateShown, itemOf, offsetFor, isWithin, closesFor, closedMeter, startOf, placedMeter, takenMeter}
 use Rattle.framer.specs.Framer.{closed, itemSize, filledMeter, placed, added, add, passed, notTaken, takeOf}
 use Rattle.framer.specs.Queue.{lengthAt}
-use Rattle.framer.proofs.FramerLaws.{sounds, sound-flag, start-least, closed-size}
+use Rattle.framer.proofs.FramerLaws.{sounds, sound-flag, start-least, closed-size, closes-never}
 use Rattle.codec.proofs.BoolLaws.{and-l, and-r}
 use Rattle.codec.proofs.Opened.{never}
 
@@ -140,7 +140,7 @@ kept-placed m t n s g h f = go (eqb (m .filled) 0) refl
           waiting = s .waiting;
         }
 
-pub clash : {G : Type 0} → true ≡ false → G
+clash : {G : Type 0} → true ≡ false → G
 clash e = never (sym (ap bit e))
 
 -- a frame that stays open is in time and has room for the item
@@ -165,10 +165,6 @@ room m t o n h e = go (eqb (m .filled) 0) refl
     go true g = rw g (omega (arith, item-most (m .lost) (offsetFor m t) o n))
     go false g = rw g (stays m t o n e g .1)
 
-never-empty : (m : Meter) (t : Time) (o : Offer) (n : ℕ) → m .filled ≡ 0 → closesFor m t o n ≡ false
-unfolding closesFor
-never-empty m t o n e = rw (eq-eqb (m .filled) 0 e)
-
 kept-place : (w : Framer) (t : Time) (o : Offer) (payload : List ℕ) → Sound (w .meter) → timeOk t ≡ true → 14 + most o (length payload) ≤ w .meter .size
     → closesFor (w .meter) t o (length payload) ≡ false → Sound (placed w t o payload .meter)
 unfolding placed filledMeter
@@ -184,7 +180,7 @@ kept-added w t o payload s g h = go (closesFor (w .meter) t o (length payload)) 
     go false e = rw e (kept-place w t o payload s g h e)
     go true e =
         let c = closed-size (w .meter) in
-        rw e (kept-place (closed w) t o payload (kept-closed (w .meter) s) g (omega (arith, c .0)) (never-empty (closedMeter (w .meter)) t o (length payload) (c .1)))
+        rw e (kept-place (closed w) t o payload (kept-closed (w .meter) s) g (omega (arith, c .0)) (sym (closes-never (closedMeter (w .meter)) t o (length payload) (c .1))))
 
 -- an item that fits an empty frame
 pub kept-add : (w : Framer) (t : Time) (o : Offer) (payload : List ℕ) → soundMeter (w .meter) ≡ true → timeOk t ≡ true

@@ -63,8 +63,8 @@ answered-sound e after cause s k = rw s (go (eqb cause 0) refl)
 
 -- one source changed
 with-sound : (e : Engine) (source : ℕ) (s : Source) (w : Framer) → soundOf e ≡ true → soundMeter (w .meter) ≡ true → soundOf (withSource e source s w) ≡ true
-unfolding withSource soundOf
-with-sound e source s w h g = rw (le-leb (e .count) 8 (few e h), g)
+unfolding withSource
+with-sound e source s w h g = sound-by (e .count) _ w (few e h) g
 
 -- reports: an accepted item fits an empty frame
 reported-sound : (e : Engine) (r : Report) (payload : List ℕ) → soundOf e ≡ true
