@@ -1,0 +1,257 @@
+-- What each source has to say: the first half of the ledger (01, rules 4 to 6, and "State" in "Frame bytes").
+use Prim.Native.Nat.{ℕ, _+_, _*_, _/_, min}
+use mathlib.Core.Bool.{Bool, true, false, not, _&&_, _||_}
+use mathlib.Core.List.{List, [], _∷_, _++_, map}
+use lib.ListN.{getD, set}
+use lib.Dec.{ltb, eqb}
+use Rattle.codec.specs.Choice.{pick, bit}
+use Rattle.codec.specs.declared.time.Time.{Time}
+use Rattle.codec.specs.declared.ident.Kind.{Kind}
+use Rattle.codec.specs.declared.ident.Kind.the-variants as Kind
+use Rattle.codec.specs.declared.ident.Ident.{Ident}
+use Rattle.codec.specs.declared.ident.Ident.the-variants as Ident
+use Rattle.mirror.specs.Call.{Call}
+use Rattle.mirror.specs.Call as Call
+
+-- something to be mirrored: an accepted report, or a state item that a tick calls for. `state` is the source's state byte
+-- without bit 7; `due` says that it is shown even where no loss is pending
+pub record Event : Type 0 where
+  pub time : Time
+  pub network : ℕ
+  pub ident : Ident
+  pub carries : Bool
+  pub payload : List ℕ
+  pub state : ℕ
+  pub due : Bool
+
+-- what 01 says of a source, filters apart: whether a report passed them, its answer tells. `shown` is the byte last shown,
+-- where `told` says that one was; `heard`, that a report was accepted since the last tick
+pub record Account : Type 0 where
+  pub kind : Kind
+  pub network : ℕ
+  pub started : Bool
+  pub state : ℕ
+  pub known : Bool
+  pub shown : ℕ
+  pub told : Bool
+  pub heard : Bool
+
+-- after setup: not started, the byte 0, unknown and unshown (rule 4)
+unfoldable pub freshAccount : Kind → ℕ → Account
+freshAccount kind network = record {
+  kind = kind;
+  network = network;
+  started = false;
+  state = 0;
+  known = false;
+  shown = 0;
+  told = false;
+  heard = false;
+}
+
+-- CAN 1, LIN 2, FlexRay 3
+unfoldable pub kindNamed : ℕ → Kind
+kindNamed n = pick (eqb n 1) Kind.Can (pick (eqb n 2) Kind.Lin Kind.FlexRay)
+
+-- the sources in the order of setup's list of kinds and ids
+abbrev pub accountsFor : List ℕ → List Account
+accountsFor [] = []
+accountsFor (kind ∷ []) = []
+accountsFor (kind ∷ (id ∷ rest)) = freshAccount (kindNamed kind) id ∷ accountsFor rest
+
+unfoldable pub accountAt : List Account → ℕ → Account
+accountAt book source = getD book source (freshAccount Kind.Can 0)
+
+-- starting, also twice, makes the byte 0, unknown and unshown; stopping keeps what is collected (rule 4)
+unfoldable pub startedAccount : Account → Account
+startedAccount a = record {
+  kind = a .kind;
+  network = a .network;
+  started = true;
+  state = 0;
+  known = false;
+  shown = 0;
+  told = false;
+  heard = a .heard;
+}
+
+unfoldable pub stoppedAccount : Account → Account
+stoppedAccount a = record {
+  kind = a .kind;
+  network = a .network;
+  started = false;
+  state = a .state;
+  known = a .known;
+  shown = a .shown;
+  told = a .told;
+  heard = a .heard;
+}
+
+-- an update makes the byte known (rule 4)
+unfoldable pub updatedAccount : ℕ → Account → Account
+updatedAccount byte a = record {
+  kind = a .kind;
+  network = a .network;
+  started = a .started;
+  state = byte;
+  known = true;
+  shown = a .shown;
+  told = a .told;
+  heard = a .heard;
+}
+
+-- online 64, error-passive 32, bus-off 16, the counter divided by 8 and cut to 15; offline makes all of it zero
+unfoldable pub canState : Bool → Bool → Bool → ℕ → ℕ
+canState online passive busOff counter = pick online (64 + bit passive * 32 + bit busOff * 16 + min (counter / 8) 15) 0
+
+-- the frame-bound bits that a report writes: none; LIN's four error bits; FlexRay's conflict bit (rule 4)
+pub data Bound : Type 0 where
+  none : Bound
+  errors : ℕ → Bound
+  conflict : Bound
+
+-- the byte with them written, and with them clear
+abbrev pub written : Bound → ℕ → ℕ
+written none byte = byte
+written (errors bits) byte = byte / 16 * 16 + bits
+written conflict byte = byte / 2 * 2 + 1
+
+abbrev pub cleared : Bound → ℕ → ℕ
+cleared none byte = byte
+cleared (errors bits) byte = byte / 16 * 16
+cleared conflict byte = byte / 2 * 2
+
+-- an accepted LIN report or FlexRay conflict makes the byte known
+abbrev pub informs : Bound → Bool
+informs none = false
+informs (errors bits) = true
+informs conflict = true
+
+-- a LIN error that is repeated is never left out, and a conflict is always shown (rules 4 and 5)
+abbrev pub insists : Bound → Bool
+insists none = false
+insists (errors bits) = ltb 0 bits
+insists conflict = true
+
+-- known, and never shown or different from the last shown (rules 4 and 6)
+unfoldable pub differs : Bool → ℕ → Account → Bool
+differs known state a = known && not (a .told && eqb (a .shown) state)
+
+-- the report shows the state even where no loss is pending (rule 4)
+unfoldable pub showsBy : Bound → Account → Bool
+showsBy b a = differs (a .known || informs b) (written b (a .state)) a || insists b
+
+-- an accepted report (rules 4 and 5)
+unfoldable pub reportEvent : Bound → Account → Time → Ident → Bool → List ℕ → Event
+reportEvent b a t ident carries payload = record {
+  time = t;
+  network = a .network;
+  ident = ident;
+  carries = carries;
+  payload = payload;
+  state = written b (a .state);
+  due = showsBy b a;
+}
+
+-- and what it leaves: frame-bound bits clear after their item; a byte that is shown for a loss alone was the last shown already
+-- or is unknown, so only what `due` shows counts (rule 4)
+unfoldable pub reportedAccount : Bound → Account → Account
+reportedAccount b a = record {
+  kind = a .kind;
+  network = a .network;
+  started = a .started;
+  state = cleared b (written b (a .state));
+  known = a .known || informs b;
+  shown = pick (showsBy b a) (written b (a .state)) (a .shown);
+  told = a .told || showsBy b a;
+  heard = true;
+}
+
+-- a tick: for each started source whose state is known, is unshown or differs from the last shown, and from which no report was
+-- accepted since the last tick (rule 6)
+unfoldable pub callsFor : Account → Bool
+callsFor a = a .started && differs (a .known) (a .state) a && not (a .heard)
+
+-- a state-only item
+unfoldable pub stateEvent : Time → Account → Event
+stateEvent t a = record {
+  time = t;
+  network = a .network;
+  ident = Ident.Bare (a .kind);
+  carries = false;
+  payload = [];
+  state = a .state;
+  due = true;
+}
+
+unfoldable pub tickedAccount : Account → Account
+tickedAccount a = record {
+  kind = a .kind;
+  network = a .network;
+  started = a .started;
+  state = a .state;
+  known = a .known;
+  shown = pick (callsFor a) (a .state) (a .shown);
+  told = a .told || callsFor a;
+  heard = false;
+}
+
+-- in order of source number
+abbrev pub stateEvents : Time → List Account → List Event
+stateEvents t [] = []
+stateEvents t (a ∷ book) = pick (callsFor a) (stateEvent t a ∷ []) [] ++ stateEvents t book
+
+-- what an accepted call gives to be mirrored
+abbrev pub eventsOf : List Account → Call → List Event
+eventsOf book (Call.can source t key payload) = reportEvent none (accountAt book source) t (Ident.Can key) true payload ∷ []
+eventsOf book (Call.lin source t pid bits payload) = reportEvent (errors bits) (accountAt book source) t (Ident.Lin pid) true payload ∷ []
+eventsOf book (Call.flexray source t channels slot cycle payload) =
+    reportEvent none (accountAt book source) t (Ident.FlexRay channels slot cycle) true payload ∷ []
+eventsOf book (Call.conflict source t channels slot cycle) =
+    reportEvent conflict (accountAt book source) t (Ident.FlexRay channels slot cycle) false [] ∷ []
+eventsOf book (Call.tick t) = stateEvents t book
+eventsOf book (Call.setup size room deadline pairs) = []
+eventsOf book (Call.switch size room deadline) = []
+eventsOf book Call.offline = []
+eventsOf book (Call.start source) = []
+eventsOf book (Call.stop source) = []
+eventsOf book (Call.can-state source online passive busOff counter) = []
+eventsOf book (Call.lin-state source online) = []
+eventsOf book (Call.flexray-state source online bits) = []
+eventsOf book (Call.can-mask source mask code) = []
+eventsOf book (Call.can-range source lower upper) = []
+eventsOf book (Call.lin-mask source mask code) = []
+eventsOf book (Call.lin-range source lower upper) = []
+eventsOf book (Call.slots source low high lowCycle highCycle repetition) = []
+eventsOf book (Call.remove source number) = []
+eventsOf book (Call.take out) = []
+eventsOf book Call.discards = []
+
+-- one account changed
+unfoldable pub changed : List Account → ℕ → (Account → Account) → List Account
+changed book source f = set book source (f (accountAt book source))
+
+-- the accounts after an accepted call
+abbrev pub accountsOf : List Account → Call → List Account
+accountsOf book (Call.start source) = changed book source startedAccount
+accountsOf book (Call.stop source) = changed book source stoppedAccount
+accountsOf book (Call.can source t key payload) = changed book source (reportedAccount none)
+accountsOf book (Call.lin source t pid bits payload) = changed book source (reportedAccount (errors bits))
+accountsOf book (Call.flexray source t channels slot cycle payload) = changed book source (reportedAccount none)
+accountsOf book (Call.conflict source t channels slot cycle) = changed book source (reportedAccount conflict)
+accountsOf book (Call.can-state source online passive busOff counter) =
+    changed book source (updatedAccount (canState online passive busOff counter))
+accountsOf book (Call.lin-state source online) = changed book source (updatedAccount (bit online * 64))
+accountsOf book (Call.flexray-state source online bits) = changed book source (updatedAccount (bit online * 64 + bits))
+accountsOf book (Call.tick t) = map tickedAccount book
+accountsOf book (Call.setup size room deadline pairs) = book
+accountsOf book (Call.switch size room deadline) = book
+accountsOf book Call.offline = book
+accountsOf book (Call.can-mask source mask code) = book
+accountsOf book (Call.can-range source lower upper) = book
+accountsOf book (Call.lin-mask source mask code) = book
+accountsOf book (Call.lin-range source lower upper) = book
+accountsOf book (Call.slots source low high lowCycle highCycle repetition) = book
+accountsOf book (Call.remove source number) = book
+accountsOf book (Call.take out) = book
+accountsOf book Call.discards = book

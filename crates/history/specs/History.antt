@@ -1,0 +1,166 @@
+-- What any sequence of calls leaves behind (demand 3), read through the reader's definitions.
+use Prim.Native.Nat.{ℕ, zero, suc, _+_, _*_, _%_, _^_, _≤_, _<_, min}
+use mathlib.Core.Path.{_≡_}
+use mathlib.Core.Logic.{_⊎_}
+use mathlib.Core.Bool.{Bool, true, false, not}
+use mathlib.Core.List.{List, [], _∷_, _++_, map}
+use lib.ListN.{length}
+use lib.ListN as ListN
+use lib.Dec.{leb, eqb}
+use Rattle.codec.specs.Choice.{pick}
+use Rattle.codec.specs.Number.{Bytes}
+use Rattle.codec.specs.Time.{ns}
+use Rattle.codec.specs.declared.item.State.{State}
+use Rattle.codec.specs.declared.item.State.the-variants as State
+use Rattle.reader.specs.declared.frame.Judged.the-variants as Judged
+use Rattle.reader.specs.Frame.{judgeOf, itemsOf}
+use Rattle.reader.specs.Listing.{Yield, stepping}
+use Rattle.framer.specs.declared.queue.Queue.{Queue}
+use Rattle.framer.specs.Queue.{frameAt}
+use Rattle.mirror.specs.Engine.{discardsOf}
+use Rattle.mirror.specs.Call.{Call, Said, runOf}
+use Rattle.mirror.specs.Call as Call
+use Rattle.mirror.specs.declared.engine.Engine.{Engine}
+use Rattle.history.specs.Account.{Account, Event}
+use Rattle.history.specs.Ledger.{Limits, Line, Frame, Closed, Ledger, emptyLedger, Op, stepL, runL, itemIn, entryIn, sizeIn, total, keptIn, discardedIn, waitingIn, offsetIn, lineFor, linesIn, fillingIn}
+use Rattle.history.specs.Ledger as Op
+use Rattle.history.specs.Deed.{Deed, deedsOf, done, eventsOn, opsOn, ledgerOf}
+
+-- a list of calls with no offline or switch, whose ids and payloads are of the machine's types
+abbrev pub Plain : Call → Type 0
+Plain (Call.can source t key payload) = (key < 2 ^ 32) × Bytes payload
+Plain (Call.lin source t pid bits payload) = Bytes payload
+Plain (Call.flexray source t channels slot cycle payload) = Bytes payload
+Plain (Call.switch size room deadline) = ⊥
+Plain Call.offline = ⊥
+Plain (Call.setup size room deadline pairs) = Unit
+Plain (Call.start source) = Unit
+Plain (Call.stop source) = Unit
+Plain (Call.conflict source t channels slot cycle) = Unit
+Plain (Call.can-state source online passive busOff counter) = Unit
+Plain (Call.lin-state source online) = Unit
+Plain (Call.flexray-state source online bits) = Unit
+Plain (Call.can-mask source mask code) = Unit
+Plain (Call.can-range source lower upper) = Unit
+Plain (Call.lin-mask source mask code) = Unit
+Plain (Call.lin-range source lower upper) = Unit
+Plain (Call.slots source low high lowCycle highCycle repetition) = Unit
+Plain (Call.remove source number) = Unit
+Plain (Call.tick t) = Unit
+Plain (Call.take out) = Unit
+Plain Call.discards = Unit
+
+abbrev pub All : {A : Type 0} → (A → Type 0) → List A → Type 0
+All P [] = Unit
+All P (x ∷ xs) = P x × All P xs
+
+-- two lists of one length, member by member
+abbrev pub Both : {A B : Type 0} → (A → B → Type 0) → List A → List B → Type 0
+Both R [] [] = Unit
+Both R [] (y ∷ ys) = ⊥
+Both R (x ∷ xs) [] = ⊥
+Both R (x ∷ xs) (y ∷ ys) = R x y × Both R xs ys
+
+-- the bytes: what takes that were answered 0 put at the front of their outputs
+abbrev pub frameOut : Call → Said → List (List ℕ)
+frameOut (Call.take out) s = ListN.take (s .number) (s .output) ∷ []
+frameOut (Call.setup size room deadline pairs) s = []
+frameOut (Call.switch size room deadline) s = []
+frameOut Call.offline s = []
+frameOut (Call.start source) s = []
+frameOut (Call.stop source) s = []
+frameOut (Call.can source t key payload) s = []
+frameOut (Call.lin source t pid bits payload) s = []
+frameOut (Call.flexray source t channels slot cycle payload) s = []
+frameOut (Call.conflict source t channels slot cycle) s = []
+frameOut (Call.can-state source online passive busOff counter) s = []
+frameOut (Call.lin-state source online) s = []
+frameOut (Call.flexray-state source online bits) s = []
+frameOut (Call.can-mask source mask code) s = []
+frameOut (Call.can-range source lower upper) s = []
+frameOut (Call.lin-mask source mask code) s = []
+frameOut (Call.lin-range source lower upper) s = []
+frameOut (Call.slots source low high lowCycle highCycle repetition) s = []
+frameOut (Call.remove source number) s = []
+frameOut (Call.tick t) s = []
+frameOut Call.discards s = []
+
+abbrev pub framesTaken : List Deed → List (List ℕ)
+framesTaken [] = []
+framesTaken (d ∷ ds) = pick (done d) (frameOut (d .call) (d .said)) [] ++ framesTaken ds
+
+-- n slots of the ring of eight from number k on
+abbrev pub slotsFrom : Queue → ℕ → ℕ → List (List ℕ)
+slotsFrom q k zero = []
+slotsFrom q k (suc n) = frameAt q (k % 8) ∷ slotsFrom q (suc k) n
+
+-- the frames that wait in the engine, the oldest first
+unfoldable pub framesWaiting : Engine → List (List ℕ)
+framesWaiting e = slotsFrom (e .framer .queue) (e .framer .meter .first) (e .framer .meter .waiting)
+
+-- the frame being filled, if there is one
+unfoldable pub framesFilling : Engine → List (List ℕ)
+framesFilling e = pick (eqb (e .framer .meter .filled) 0) [] (ListN.take (e .framer .meter .filled) (e .framer .bytes) ∷ [])
+
+-- what the reader yields is the line's item with its payload, and the recovered time is never after the time reported and less
+-- than 10,000 ns before it (a and d)
+pub record Shows (y : Yield) (x : Line) : Type 0 where
+  pub item : y .item ≡ itemIn x
+  pub payload : y .payload ≡ x .event .payload
+  pub never-after : ns (y .time) ≤ ns (x .event .time)
+  pub near : ns (x .event .time) < ns (y .time) + 10000
+
+-- the reader accepts the bytes; their header and items are the frame's, and stepping yields its lines one by one (a and d)
+pub record Reads (s : List ℕ) (f : Frame) : Type 0 where
+  pub header : judgeOf s ≡ Judged.Frame (record { sequence = f .sequence; time = f .time; length = total (f .lines) })
+  pub items : itemsOf s 14 ≡ map entryIn (f .lines)
+  pub lines : Both Shows (stepping (length s) s 14) (f .lines)
+
+-- rule 2 or rule 6 says that the frame being filled closes; a take never does (c)
+abbrev pub Says : Limits → Ledger → Op → Type 0
+Says c l (Op.event ev) =
+    (l .filling .lines ≡ [] → ⊥)
+    × ((ns (ev .time) < ns (l .filling .time)) ⊎ ((65535 < offsetIn (l .filling) (ev .time)) ⊎ (c .size < 14 + total (l .filling .lines) + sizeIn (lineFor l ev))))
+Says c l (Op.deadline t) =
+    (l .filling .lines ≡ [] → ⊥) × ((1 ≤ c .deadline) × (ns (l .filling .time) + c .deadline * 1000000 ≤ ns t))
+Says c l Op.take = ⊥
+
+-- at one moment: no frame closes and no rule says so, or one does, as a rule says, and it is discarded exactly where Q wait (c)
+pub data Closes (c : Limits) (l : Ledger) (op : Op) (m : Ledger) : Type 0 where
+  stays : m .closed ≡ l .closed → (Says c l op → ⊥) → Closes c l op m
+  closes : (kept : Bool) → m .closed ≡ l .closed ++ (record { frame = l .filling; kept = kept } ∷ []) → Says c l op
+      → (kept ≡ true → length (waitingIn l) < c .room) → (kept ≡ false → length (waitingIn l) ≡ c .room) → Closes c l op m
+
+-- bit 7 of a shown state
+abbrev pub lostBit : State → Bool
+lostBit (State.Byte b) = leb 128 b
+lostBit State.Absent = false
+
+-- the lost bit is b on the first line and is clear on the others
+abbrev pub Marked : Bool → List Line → Type 0
+Marked b [] = Unit
+Marked b (x ∷ xs) = (lostBit (itemIn x .state) ≡ b) × All (λ y. lostBit (itemIn y .state) ≡ false) xs
+
+-- frame after frame: it is set on the first line after a discarded frame, and on no other; b says whether one was discarded just
+-- before (e)
+abbrev pub Marks : Bool → List Closed → List Line → Type 0
+Marks b [] xs = Marked b xs
+Marks b (k ∷ ks) xs = Marked b (k .frame .lines) × Marks (not (k .kept)) ks xs
+
+-- demand 3, for an engine e after setup with the limits c and the accounts `book`
+pub record History (c : Limits) (book : List Account) (e : Engine) (calls : List Call) : Type 0 where
+  -- a: the frames taken, then those waiting, then the one being filled read as the kept frames of the ledger and the open one
+  pub frames : Both Reads (framesTaken (deedsOf e calls) ++ framesWaiting (runOf e calls) ++ framesFilling (runOf e calls))
+      (keptIn (ledgerOf c book (deedsOf e calls) .closed) ++ fillingIn (ledgerOf c book (deedsOf e calls)))
+  pub taken : length (framesTaken (deedsOf e calls)) ≡ ledgerOf c book (deedsOf e calls) .taken
+  pub waiting : length (framesWaiting (runOf e calls)) ≡ length (waitingIn (ledgerOf c book (deedsOf e calls)))
+  -- b: the ledger's lines are the accepted reports and the state items called for, in order
+  pub items : map (λ (x : Line). x .event) (linesIn (ledgerOf c book (deedsOf e calls))) ≡ eventsOn book (deedsOf e calls)
+  -- c: at each moment a frame closes exactly when rule 2 or 6 says, and is discarded exactly when Q wait
+  pub closes : (before after : List Op) (op : Op) → opsOn book (deedsOf e calls) ≡ before ++ (op ∷ after)
+      → Closes c (runL c emptyLedger before) op (stepL c (runL c emptyLedger before) op)
+  pub discards : discardsOf (runOf e calls) .count ≡ min (length (discardedIn (ledgerOf c book (deedsOf e calls) .closed))) 4294967295
+  -- e: the lost bit stands exactly on the first item made after a discard
+  pub marks : Marks false (ledgerOf c book (deedsOf e calls) .closed) (ledgerOf c book (deedsOf e calls) .filling .lines)
+  -- f: no call answers 19
+  pub answers : All (λ (d : Deed). d .said .answer ≡ 19 → ⊥) (deedsOf e calls)

@@ -1,0 +1,4 @@
+pub mod Account
+pub mod Ledger
+pub mod Deed
+pub mod History
