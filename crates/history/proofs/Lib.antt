@@ -1,1 +1,13 @@
 pub mod Machine
+pub mod BitLaws
+pub mod ListLaws
+pub mod Moves
+pub mod LedgerLaws
+pub mod DeedLaws
+pub mod MarkLaws
+pub mod FrameLaws
+pub mod ReadLaws
+pub mod PadLaws
+pub mod SlotLaws
+pub mod TieLaws
+pub mod SimLaws
