@@ -11,3 +11,8 @@ pub mod PadLaws
 pub mod SlotLaws
 pub mod TieLaws
 pub mod SimLaws
+pub mod TakeLaws
+pub mod OutputLaws
+pub mod SourceLaws
+pub mod EngineLaws
+pub mod Theorem

@@ -52,11 +52,11 @@ pub record Tie (c : Limits) (w : Framer) (l : Ledger) : Type 0 where
   pub slots : slotsFrom (w .queue) (l .taken) (length (waitingIn l)) ≡ map laid (waitingIn l)
   pub store : Store (w .queue)
 
-image-open : (f : Frame) → isEmpty (f .lines) ≡ false → imageIn f ≡ pad (laid f)
+pub image-open : (f : Frame) → isEmpty (f .lines) ≡ false → imageIn f ≡ pad (laid f)
 unfolding imageIn
 image-open f e = rw e
 
-map-append : {A B : Type 0} (f : A → B) (xs ys : List A) → map f (xs ++ ys) ≡ map f xs ++ map f ys
+pub map-append : {A B : Type 0} (f : A → B) (xs ys : List A) → map f (xs ++ ys) ≡ map f xs ++ map f ys
 map-append f [] ys = refl
 map-append f (x ∷ xs) ys = ap (λ r. f x ∷ r) (map-append f xs ys)
 
@@ -207,7 +207,7 @@ rest [] = []
 rest (x ∷ xs) = xs
 
 module _ (c : Limits) (w : Framer) (l : Ledger) (t : Tied c w l) where
-  limits-of : (c .size ≤ 1024) × (c .room ≤ 8)
+  pub limits-of : (c .size ≤ 1024) × (c .room ≤ 8)
   unfolding meterOf
   limits-of =
       let s = sounds (meterOf c l) (rw (t .tie .meter) at t .sound) in
@@ -277,7 +277,7 @@ taken-sound w s = go (eqb (w .meter .waiting) 0) refl
         let q : takeOf w n .framer .meter ≡ takenMeter (w .meter) = rw (s, e, le-ltb n n (omega arith)) in
         ap soundMeter (sym q) ∙ kept-take w n s
 
-step-ledger : (c : Limits) (l : Ledger) (op : Op) → SoundL c l → SoundL c (stepL c l op)
+pub step-ledger : (c : Limits) (l : Ledger) (op : Op) → SoundL c l → SoundL c (stepL c l op)
 step-ledger c l op p = run-move c (λ ev. Unit {0}) (λ l h. SoundL c l) (sound-moves c) l [] (op ∷ []) (all-unit (eventsIn (op ∷ []))) p
 
 pub step-tied : (c : Limits) (w : Framer) (l : Ledger) (op : Op) → Tied c w l → FitOp c op → Tied c (stepW w op) (stepL c l op)

@@ -22,7 +22,7 @@ use Rattle.mirror.specs.Call.{Call, Said, runOf}
 use Rattle.mirror.specs.Call as Call
 use Rattle.mirror.specs.declared.engine.Engine.{Engine}
 use Rattle.history.specs.Account.{Account, Event}
-use Rattle.history.specs.Ledger.{Limits, Line, Frame, Closed, Ledger, emptyLedger, Op, stepL, runL, itemIn, entryIn, sizeIn, total, keptIn, discardedIn, waitingIn, offsetIn, lineFor, linesIn, fillingIn}
+use Rattle.history.specs.Ledger.{Limits, Line, Frame, Closed, Ledger, emptyLedger, Op, stepL, runL, itemIn, entryIn, sizeIn, total, discardedIn, takenIn, waitingIn, offsetIn, lineFor, linesIn, fillingIn}
 use Rattle.history.specs.Ledger as Op
 use Rattle.history.specs.Deed.{Deed, deedsOf, done, eventsOn, opsOn, ledgerOf}
 
@@ -149,17 +149,17 @@ Marks b (k ∷ ks) xs = Marked b (k .frame .lines) × Marks (not (k .kept)) ks x
 
 -- demand 3, for an engine e after setup with the limits c and the accounts `book`
 pub record History (c : Limits) (book : List Account) (e : Engine) (calls : List Call) : Type 0 where
-  -- a: the frames taken, then those waiting, then the one being filled read as the kept frames of the ledger and the open one
-  pub frames : Both Reads (framesTaken (deedsOf e calls) ++ framesWaiting (runOf e calls) ++ framesFilling (runOf e calls))
-      (keptIn (ledgerOf c book (deedsOf e calls) .closed) ++ fillingIn (ledgerOf c book (deedsOf e calls)))
-  pub taken : length (framesTaken (deedsOf e calls)) ≡ ledgerOf c book (deedsOf e calls) .taken
-  pub waiting : length (framesWaiting (runOf e calls)) ≡ length (waitingIn (ledgerOf c book (deedsOf e calls)))
+  -- a: the frames taken, then those waiting, then the one being filled read as those of the ledger
+  pub taken : Both Reads (framesTaken (deedsOf e calls)) (takenIn (ledgerOf c book (deedsOf e calls)))
+  pub waiting : Both Reads (framesWaiting (runOf e calls)) (waitingIn (ledgerOf c book (deedsOf e calls)))
+  pub filling : Both Reads (framesFilling (runOf e calls)) (fillingIn (ledgerOf c book (deedsOf e calls)))
   -- b: the ledger's lines are the accepted reports and the state items called for, in order
   pub items : map (λ (x : Line). x .event) (linesIn (ledgerOf c book (deedsOf e calls))) ≡ eventsOn book (deedsOf e calls)
   -- c: at each moment a frame closes exactly when rule 2 or 6 says, and is discarded exactly when Q wait
   pub closes : (before after : List Op) (op : Op) → opsOn book (deedsOf e calls) ≡ before ++ (op ∷ after)
       → Closes c (runL c emptyLedger before) op (stepL c (runL c emptyLedger before) op)
   pub discards : discardsOf (runOf e calls) .count ≡ min (length (discardedIn (ledgerOf c book (deedsOf e calls) .closed))) 4294967295
+  pub filled : All (λ (k : Closed). k .frame .lines ≡ [] → ⊥) (ledgerOf c book (deedsOf e calls) .closed)
   -- e: the lost bit stands exactly on the first item made after a discard
   pub marks : Marks false (ledgerOf c book (deedsOf e calls) .closed) (ledgerOf c book (deedsOf e calls) .filling .lines)
   -- f: no call answers 19

@@ -3,6 +3,7 @@ use Prim.Native.Nat.{ℕ, _+_, _-_, _*_, _/_, _%_}
 use mathlib.Core.Bool.{Bool, true, false, not, _&&_, _||_}
 use mathlib.Core.List.{List, [], _∷_, _++_, map}
 use lib.ListN.{length, drop}
+use lib.ListN as ListN
 use lib.Dec.{ltb, leb}
 use Rattle.codec.specs.Choice.{pick}
 use Rattle.codec.specs.Time.{ns}
@@ -94,7 +95,10 @@ abbrev pub discardedIn : List Closed → List Frame
 discardedIn [] = []
 discardedIn (k ∷ ks) = pick (k .kept) [] (k .frame ∷ []) ++ discardedIn ks
 
--- kept and not yet taken
+-- kept and taken, the oldest first; kept and not yet taken
+unfoldable pub takenIn : Ledger → List Frame
+takenIn l = ListN.take (l .taken) (keptIn (l .closed))
+
 unfoldable pub waitingIn : Ledger → List Frame
 waitingIn l = drop (l .taken) (keptIn (l .closed))
 

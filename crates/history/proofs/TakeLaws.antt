@@ -1,0 +1,64 @@
+-- The frames taken are the first of those that were kept, in order.
+use Prim.Native.Nat.{ℕ, suc, _+_, _≤_}
+use mathlib.Core.Path.{_≡_, refl, sym, _∙_, ap}
+use mathlib.Core.Bool.{Bool, true, false}
+use mathlib.Core.List.{List, [], _∷_, _++_, map, append-assoc, append-nil}
+use native.Mathlib.Omega.{arith}
+use lib.ListN.{length, take, drop}
+use lib.Seq.{take-append-le, take-add}
+use Rattle.codec.specs.Choice.{pick}
+use Rattle.codec.specs.declared.time.Time.{Time}
+use Rattle.history.specs.Account.{Event}
+use Rattle.history.specs.Ledger.{Limits, Frame, Closed, Ledger, Op, isEmpty, keptIn, takenIn, waitingIn, hasRoom, close, begin, enter, mirrored, closesBefore, overdue, taken, stepL, runL}
+use Rattle.history.specs.Ledger as Rules
+use Rattle.history.proofs.ListLaws.{kept-append}
+use Rattle.history.proofs.LedgerLaws.{SoundL}
+use Rattle.history.proofs.Moves.{taken-none, taken-one, tookOne}
+use Rattle.history.proofs.SimLaws.{step-ledger}
+
+-- what an operation takes
+abbrev pub got : Ledger → Op → List Frame
+got l (Rules.event ev) = []
+got l (Rules.deadline t) = []
+got l Rules.take = take 1 (waitingIn l)
+
+abbrev pub gotOn : Limits → Ledger → List Op → List Frame
+gotOn c l [] = []
+gotOn c l (op ∷ ops) = got l op ++ gotOn c (stepL c l op) ops
+
+-- a closing adds behind what was kept
+took-close : (c : Limits) (l : Ledger) (b : Bool) → SoundL c l → takenIn (pick b (close c l) l) ≡ takenIn l
+unfolding takenIn close
+took-close c l false s = refl
+took-close c l true s =
+    rw (kept-append (l .closed) (record { frame = l .filling; kept = hasRoom c l } ∷ []))
+    (take-append-le (l .taken) (keptIn (l .closed)) (keptIn (record { frame = l .filling; kept = hasRoom c l } ∷ [])) (s .taken))
+
+took-begin : (t : Time) (l : Ledger) → takenIn (begin t l) ≡ takenIn l
+unfolding takenIn begin
+took-begin t l = go (isEmpty (l .filling .lines)) refl
+  where
+    go : (b : Bool) → isEmpty (l .filling .lines) ≡ b → takenIn (begin t l) ≡ takenIn l
+    go true e = rw e
+    go false e = rw e
+
+took-enter : (ev : Event) (l : Ledger) → takenIn (enter ev l) ≡ takenIn l
+unfolding takenIn enter
+took-enter ev l = refl
+
+took-take : (l : Ledger) (fs : List Frame) → waitingIn l ≡ fs → takenIn (taken l) ≡ takenIn l ++ take 1 (waitingIn l)
+unfolding takenIn waitingIn
+took-take l [] e = rw (taken-none l e) (rw e (sym (append-nil (take (l .taken) (keptIn (l .closed))))))
+took-take l (f ∷ fs) e = rw (taken-one l f fs e) (take-add (l .taken) 1 (keptIn (l .closed)))
+
+step-took : (c : Limits) (l : Ledger) (op : Op) → SoundL c l → takenIn (stepL c l op) ≡ takenIn l ++ got l op
+unfolding mirrored Rules.passed
+step-took c l (Rules.event ev) s =
+    let m : Ledger = pick (closesBefore c l ev) (close c l) l in
+    took-enter ev (begin (ev .time) m) ∙ took-begin (ev .time) m ∙ took-close c l (closesBefore c l ev) s ∙ sym (append-nil (takenIn l))
+step-took c l (Rules.deadline t) s = took-close c l (overdue c l t) s ∙ sym (append-nil (takenIn l))
+step-took c l Rules.take s = took-take l (waitingIn l) refl
+
+pub run-took : (c : Limits) (l : Ledger) (ops : List Op) → SoundL c l → takenIn (runL c l ops) ≡ takenIn l ++ gotOn c l ops
+run-took c l [] s = sym (append-nil (takenIn l))
+run-took c l (op ∷ ops) s = run-took c (stepL c l op) ops (step-ledger c l op s) ∙ rw (step-took c l op s) (rw append-assoc)
