@@ -16,3 +16,4 @@ pub mod OutputLaws
 pub mod SourceLaws
 pub mod EngineLaws
 pub mod Theorem
+pub mod Lossless

@@ -164,3 +164,12 @@ pub record History (c : Limits) (book : List Account) (e : Engine) (calls : List
   pub marks : Marks false (ledgerOf c book (deedsOf e calls) .closed) (ledgerOf c book (deedsOf e calls) .filling .lines)
   -- f: no call answers 19
   pub answers : All (λ (d : Deed). d .said .answer ≡ 19 → ⊥) (deedsOf e calls)
+
+-- what stepping through one frame after the other yields
+abbrev pub yieldsIn : List (List ℕ) → List Yield
+yieldsIn [] = []
+yieldsIn (s ∷ ss) = stepping (length s) s 14 ++ yieldsIn ss
+
+-- the event itself, with nothing lost before it
+abbrev pub ShowsEvent : Yield → Event → Type 0
+ShowsEvent y ev = Shows y (record { event = ev; offset = y .item .offset .0; lost = false })
