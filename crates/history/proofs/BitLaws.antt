@@ -1,10 +1,10 @@
--- Masks of a state byte as arithmetic. Assumes nothing.
+-- Masks of a state byte as arithmetic.
 use Prim.Native.Nat.{ℕ, _+_, _*_, _/_, _<_}
 use mathlib.Core.Path.{_≡_, _∙_}
 use native.Mathlib.Omega.{arith}
 use lib.Bits.{bitAnd, bitOr, and-mask, and-high, or-shifted, or-shifted-r}
 
--- the four low bits cleared, the lowest cleared, none
+-- what a report's mask keeps: all but the four low bits, all but the lowest, everything
 pub keep-high : (n : ℕ) → n < 256 → bitAnd n 240 ≡ n / 16 * 16
 keep-high n h = and-high n 4 4 ∙ omega arith
 

@@ -1,4 +1,4 @@
--- The events among the operations of deeds are the deeds' own. Assumes nothing.
+-- The events among the operations of deeds are the deeds' own: the deadlines and takes between them add none.
 use mathlib.Core.Path.{_≡_, refl, _∙_}
 use mathlib.Core.Bool.{Bool, true, false}
 use mathlib.Core.List.{List, [], _∷_, _++_, map, append-nil}
@@ -7,17 +7,17 @@ use Rattle.mirror.specs.Call.{Call}
 use Rattle.mirror.specs.Call as Call
 use Rattle.history.specs.Account.{Account, Event, eventsOf}
 use Rattle.history.specs.Ledger.{Op}
-use Rattle.history.specs.Ledger as Op
+use Rattle.history.specs.Ledger as Rules
 use Rattle.history.specs.Deed.{Deed, done, besides, opsOf, accountsBy, eventsOn, opsOn}
 use Rattle.history.proofs.Moves.{eventsIn}
 
 eventsIn-append : (a b : List Op) → eventsIn (a ++ b) ≡ eventsIn a ++ eventsIn b
 eventsIn-append [] b = refl
-eventsIn-append (Op.event ev ∷ a) b = rw (eventsIn-append a b)
-eventsIn-append (Op.deadline t ∷ a) b = eventsIn-append a b
-eventsIn-append (Op.take ∷ a) b = eventsIn-append a b
+eventsIn-append (Rules.event ev ∷ a) b = rw (eventsIn-append a b)
+eventsIn-append (Rules.deadline t ∷ a) b = eventsIn-append a b
+eventsIn-append (Rules.take ∷ a) b = eventsIn-append a b
 
-events-only : (evs : List Event) → eventsIn (map Op.event evs) ≡ evs
+events-only : (evs : List Event) → eventsIn (map Rules.event evs) ≡ evs
 events-only [] = refl
 events-only (ev ∷ evs) = rw (events-only evs)
 
@@ -47,7 +47,7 @@ none-besides Call.discards = refl
 events-of : (book : List Account) (x : Call) → eventsIn (opsOf book x) ≡ eventsOf book x
 unfolding opsOf
 events-of book x =
-    eventsIn-append (map Op.event (eventsOf book x)) (besides x) ∙ rw (events-only (eventsOf book x), none-besides x) (append-nil (eventsOf book x))
+    eventsIn-append (map Rules.event (eventsOf book x)) (besides x) ∙ rw (events-only (eventsOf book x), none-besides x) (append-nil (eventsOf book x))
 
 events-by : (b : Bool) (book : List Account) (x : Call) → eventsIn (pick b (opsOf book x) []) ≡ pick b (eventsOf book x) []
 events-by true book x = events-of book x

@@ -1,41 +1,41 @@
--- What every frame of the ledger is: its header and lines may stand in bytes, and each offset dates its line. Assumes nothing.
+-- What every frame of the ledger is: its header and lines may stand in bytes, and each offset dates its line.
 use Prim.Native.Nat.{ℕ, _+_, _*_, _≤_, _<_}
-use native.Mathlib.Omega.{arith}
 use mathlib.Core.Path.{_≡_, refl, _∙_}
 use mathlib.Core.Bool.{Bool, true, false, true≢false}
 use mathlib.Core.List.{List, [], _∷_, _++_, map}
+use native.Mathlib.Omega.{arith}
 use lib.ListN.{length, length-append}
 use lib.Dec.{leb}
 use borrow.Author.Tests.{leb-true}
 use Rattle.codec.specs.Choice.{pick}
 use Rattle.codec.specs.Time.{ns, timeOk}
 use Rattle.codec.specs.Item.{encode}
-use Rattle.codec.specs.Layout.{StateFits, Valid, AllValid, Head, body, layout}
+use Rattle.codec.specs.Layout.{StateFits, Valid, AllValid, Head, body}
 use Rattle.codec.specs.declared.time.Time.{Time}
 use Rattle.codec.specs.declared.item.State.the-variants as State
 use Rattle.codec.proofs.BoolLaws.{and-l, and-r}
 use Rattle.codec.proofs.ItemLaws.{encode-length}
-use Rattle.codec.proofs.HeaderLaws.{header-length}
 use Rattle.history.specs.Account.{Event}
 use Rattle.history.specs.Ledger.{Limits, Line, Frame, Closed, Ledger, emptyLedger, Op, stateIn, itemIn, entryIn, sizeIn, total, isEmpty, keptIn, offsetIn, lineFor, close, enter, runL, fillingIn}
 use Rattle.history.specs.History.{All}
 use Rattle.history.proofs.Machine.{Fit, FitOp, laid}
 use Rattle.history.proofs.ListLaws.{not-empty, all-append, all-kept}
 use Rattle.history.proofs.Moves.{fit-events, Ready, Moves, run-move}
+use Rattle.history.proofs.PadLaws.{layout-length}
 
--- the bytes of lines are as many as their total says
+-- the lengths that the rules reckon with are those of the bytes
 pub total-body : (xs : List Line) → length (body (map entryIn xs)) ≡ total xs
 unfolding sizeIn
 total-body [] = refl
 total-body (x ∷ xs) = length-append (encode (itemIn x) (x .event .payload)) (body (map entryIn xs)) ∙ rw (encode-length (itemIn x) (x .event .payload), total-body xs)
 
 pub laid-length : (f : Frame) → length (laid f) ≡ 14 + total (f .lines)
-unfolding laid layout
-laid-length f = rw (length-append, header-length, total-body (f .lines))
+unfolding laid
+laid-length f = layout-length (f .sequence) (f .time) (map entryIn (f .lines)) ∙ rw (total-body (f .lines))
 
-pub total-append : (xs ys : List Line) → total (xs ++ ys) ≡ total xs + total ys
-total-append [] ys = omega arith
-total-append (x ∷ xs) ys = rw (total-append xs ys) (omega arith)
+pub total-more : (xs : List Line) (x : Line) → total (xs ++ (x ∷ [])) ≡ total xs + sizeIn x
+total-more [] x = omega arith
+total-more (y ∷ xs) x = omega (arith, total-more xs x)
 
 -- an offset dates its line from the header time t, less than 10,000 ns early
 pub record Dated (t : Time) (x : Line) : Type 0 where
@@ -43,6 +43,7 @@ pub record Dated (t : Time) (x : Line) : Type 0 where
   pub never-after : ns t + x .offset * 10000 ≤ ns (x .event .time)
   pub near : ns (x .event .time) < ns t + x .offset * 10000 + 10000
 
+-- what a reader needs of a closed frame
 pub record Good (c : Limits) (f : Frame) : Type 0 where
   pub head : Head (f .sequence) (f .time) (map entryIn (f .lines))
   pub valid : AllValid (map entryIn (f .lines))
@@ -50,13 +51,13 @@ pub record Good (c : Limits) (f : Frame) : Type 0 where
   pub filled : f .lines ≡ [] → ⊥
   pub dated : All (Dated (f .time)) (f .lines)
 
--- the same before there is a line
-pub record Fair (c : Limits) (f : Frame) : Type 0 where
-  pub sequence : f .sequence < 256
-  pub time : timeOk (f .time) ≡ true
-  pub valid : AllValid (map entryIn (f .lines))
-  pub size : isEmpty (f .lines) ≡ false → 14 + total (f .lines) ≤ c .size
-  pub dated : All (Dated (f .time)) (f .lines)
+-- the same of the frame being filled, which may have no line yet
+record Fair (c : Limits) (f : Frame) : Type 0 where
+  sequence : f .sequence < 256
+  time : timeOk (f .time) ≡ true
+  valid : AllValid (map entryIn (f .lines))
+  size : isEmpty (f .lines) ≡ false → 14 + total (f .lines) ≤ c .size
+  dated : All (Dated (f .time)) (f .lines)
 
 time-ok : (t : Time) → timeOk t ≡ true → (t .sec ≤ 281474976710655) × (t .nano ≤ 999999999)
 time-ok t e = (
@@ -115,17 +116,17 @@ enter-fair c ev l f r p =
       sequence = p .sequence;
       time = p .time;
       valid = valid-snoc (l .filling .lines) x (p .valid) (line-valid c x (unfold lineFor in f) (d .offset));
-      size = λ e. omega (arith, total-append (l .filling .lines) (x ∷ []), r .room f);
+      size = λ e. omega (arith, total-more (l .filling .lines) x, r .room f);
       dated = all-append (Dated (l .filling .time)) (l .filling .lines) (x ∷ []) (p .dated) (d, tt);
     }
 
--- a ledger of such frames, n its next sequence number
-pub record Fine (c : Limits) (ks : List Closed) (f : Frame) (n : ℕ) : Type 0 where
-  pub closed : All (λ (k : Closed). Good c (k .frame)) ks
-  pub filling : Fair c f
-  pub next : n < 256
+-- a ledger of such frames; n is its next sequence number
+record Fine (c : Limits) (ks : List Closed) (f : Frame) (n : ℕ) : Type 0 where
+  closed : All (λ (k : Closed). Good c (k .frame)) ks
+  filling : Fair c f
+  next : n < 256
 
-abbrev pub FineL : Limits → Ledger → Type 0
+abbrev FineL : Limits → Ledger → Type 0
 FineL c l = Fine c (l .closed) (l .filling) (l .next)
 
 -- a frame without lines
@@ -151,7 +152,7 @@ fine-moves c s = record {
 }
 
 module _ (c : Limits) (ops : List Op) (s : c .size ≤ 1024) (x : All (FitOp c) ops) where
-  pub fine : FineL c (runL c emptyLedger ops)
+  fine : FineL c (runL c emptyLedger ops)
   unfolding emptyLedger
   fine =
       run-move c (Fit c) (λ l h. FineL c l) (fine-moves c s) emptyLedger [] ops (fit-events c ops x)
@@ -170,6 +171,3 @@ module _ (c : Limits) (ops : List Op) (s : c .size ≤ 1024) (x : All (FitOp c) 
 
   pub good-kept : All (Good c) (keptIn (runL c emptyLedger ops .closed))
   good-kept = all-kept (Good c) (runL c emptyLedger ops .closed) (fine .closed)
-
-  pub next-small : runL c emptyLedger ops .next < 256
-  next-small = fine .next

@@ -1,40 +1,31 @@
 -- Two readings of `History`: all frames in one row; and where nothing was discarded and nothing waits or is being filled, the frames
 -- taken hold exactly the accepted reports and the state items called for.
-use Prim.Native.Nat.{ℕ, suc, _+_, _≤_, _<_, min}
+use Prim.Native.Nat.{ℕ, _+_, min}
 use mathlib.Core.Path.{_≡_, refl, sym, _∙_, ap}
-use mathlib.Core.Bool.{Bool, true, false, not, true≢false, false≢true}
+use mathlib.Core.Bool.{Bool, true, false, true≢false, false≢true}
 use mathlib.Core.List.{List, [], _∷_, _++_, map, append-nil}
 use native.Mathlib.Omega.{arith}
-use lib.ListN.{length, take, drop, take-append-drop}
+use lib.ListN.{length, take-append-drop}
 use lib.Dec.{leb}
 use borrow.Author.Tests.{le-leb}
 use Rattle.codec.specs.Choice.{pick}
 use Rattle.codec.specs.declared.item.Item.{Item}
-use Rattle.codec.specs.declared.item.State.the-variants as State
 use Rattle.reader.specs.Listing.{Yield, stepping}
 use Rattle.mirror.specs.Engine.{discardsOf}
 use Rattle.mirror.specs.Call.{Call, runOf}
 use Rattle.mirror.specs.declared.engine.Engine.{Engine}
-use Rattle.history.specs.Account.{Account, Event}
+use Rattle.history.specs.Account.{Account}
 use Rattle.history.specs.Ledger.{Limits, Line, Frame, Closed, Ledger, stateIn, itemIn, isEmpty, keptIn, discardedIn, takenIn, waitingIn, fillingIn, linesClosed, linesIn}
 use Rattle.history.specs.Deed.{deedsOf, eventsOn, ledgerOf}
 use Rattle.history.specs.History.{All, Both, Shows, Reads, lostBit, Marked, Marks, framesTaken, framesWaiting, framesFilling, History, yieldsIn, ShowsEvent}
-use Rattle.history.proofs.ListLaws.{both-append, all-append, empty-is}
-
-both-none : {A B : Type 0} (R : A → B → Type 0) (xs : List A) (ys : List B) → xs ≡ [] → Both R xs ys → ys ≡ []
-both-none R [] [] e b = refl
-both-none R [] (y ∷ ys) e b = absurd b
-both-none R (x ∷ xs) ys e b = absurd (false≢true (ap isEmpty e))
-
-length-none : {A : Type 0} (xs : List A) → length xs ≡ 0 → xs ≡ []
-length-none [] e = refl
-length-none (x ∷ xs) e = let z : ⊥ = omega arith in absurd z
+use Rattle.history.proofs.ListLaws.{empty-is, length-none, all-append, both-append, both-none}
 
 -- the lines of frames, one frame after the other
 abbrev linesOf : List Frame → List Line
 linesOf [] = []
 linesOf (f ∷ fs) = f .lines ++ linesOf fs
 
+-- stepping through frames shows their lines
 yields-lines : (ss : List (List ℕ)) (fs : List Frame) → Both Reads ss fs → Both Shows (yieldsIn ss) (linesOf fs)
 yields-lines [] [] b = tt
 yields-lines [] (f ∷ fs) b = absurd b
@@ -64,6 +55,7 @@ unlost (k ∷ ks) xs e m =
     let n : Marks false ks xs = rw (q .0) at m .1 in
     all-append Unlost (k .frame .lines) (linesClosed ks) (unlost-first (k .frame .lines) (m .0)) (unlost ks xs (q .1) n)
 
+-- a line that shows no loss is its event, with the offset that is read
 not-lost : (x : Line) → Unlost x → x .lost ≡ false
 unfolding itemIn stateIn
 not-lost x e = go (x .lost) refl
@@ -82,12 +74,12 @@ shows-event y x e s =
     = λ i. record { event = x .event; offset = o i; lost = not-lost x e i } in
     record { item = s .item ∙ ap itemIn z; payload = s .payload; never-after = s .never-after; near = s .near }
 
-show-events : (ys : List Yield) (xs : List Line) → All Unlost xs → Both Shows ys xs
+shows-events : (ys : List Yield) (xs : List Line) → All Unlost xs → Both Shows ys xs
     → Both ShowsEvent ys (map (λ (x : Line). x .event) xs)
-show-events [] [] a b = tt
-show-events [] (x ∷ xs) a b = absurd b
-show-events (y ∷ ys) [] a b = absurd b
-show-events (y ∷ ys) (x ∷ xs) a b = (shows-event y x (a .0) (b .0), show-events ys xs (a .1) (b .1))
+shows-events [] [] a b = tt
+shows-events [] (x ∷ xs) a b = absurd b
+shows-events (y ∷ ys) [] a b = absurd b
+shows-events (y ∷ ys) (x ∷ xs) a b = (shows-event y x (a .0) (b .0), shows-events ys xs (a .1) (b .1))
 
 filled-none : (f : Frame) → pick (isEmpty (f .lines)) [] (f ∷ []) ≡ [] → f .lines ≡ []
 filled-none f e = go (isEmpty (f .lines)) refl
@@ -129,8 +121,7 @@ module _ (c : Limits) (book : List Account) (e : Engine) (calls : List Call) (h 
     lines-taken = rw (all-taken, kept-lines (end .closed) none-discarded, none-filling) (sym (append-nil (linesClosed (end .closed))))
 
     pub lossless : Both ShowsEvent (yieldsIn (framesTaken (deedsOf e calls))) (eventsOn book (deedsOf e calls))
-    unfolding linesIn
     lossless =
         let u : All Unlost (linesOf (takenIn end))
         = rw (all-taken, kept-lines (end .closed) none-discarded) (unlost (end .closed) (end .filling .lines) none-discarded (h .marks)) in
-        rw (← h .items, ← lines-taken) (show-events (yieldsIn (framesTaken (deedsOf e calls))) (linesOf (takenIn end)) u (yields-lines (framesTaken (deedsOf e calls)) (takenIn end) (h .taken)))
+        rw (← h .items, ← lines-taken) (shows-events (yieldsIn (framesTaken (deedsOf e calls))) (linesOf (takenIn end)) u (yields-lines (framesTaken (deedsOf e calls)) (takenIn end) (h .taken)))

@@ -1,9 +1,9 @@
--- The lost bit stands on the first line after a discarded frame and on no other. Assumes nothing.
+-- The lost bit stands on the first line after a discarded frame and on no other.
 use Prim.Native.Nat.{ℕ, _+_, _<_}
-use native.Mathlib.Omega.{arith}
 use mathlib.Core.Path.{_≡_, refl, sym, _∙_}
 use mathlib.Core.Bool.{Bool, true, false, not, _&&_}
 use mathlib.Core.List.{List, [], _∷_, _++_}
+use native.Mathlib.Omega.{arith}
 use borrow.Author.Tests.{le-leb, lt-leb}
 use Rattle.codec.specs.Choice.{pick}
 use Rattle.codec.specs.declared.item.State.the-variants as State

@@ -1,10 +1,9 @@
--- One induction for every property of the ledger: an operation is at most a close, a begin and an enter, or a take. Assumes
--- nothing.
+-- One induction for every property of the ledger: an operation is at most a close, a begin and an enter, or a take.
 use Prim.Native.Nat.{ℕ, _+_, _%_, _≤_}
-use native.Mathlib.Omega.{arith}
 use mathlib.Core.Path.{_≡_, refl}
-use mathlib.Core.Bool.{Bool, true, false, not, _&&_, _||_, true≢false, false≢true}
+use mathlib.Core.Bool.{Bool, true, false, true≢false}
 use mathlib.Core.List.{List, [], _∷_, _++_, append-assoc, append-nil}
+use native.Mathlib.Omega.{arith}
 use lib.ListN.{length}
 use lib.Dec.{ltb}
 use borrow.Author.Tests.{ltb-false}
@@ -12,40 +11,32 @@ use Rattle.codec.specs.Choice.{pick}
 use Rattle.codec.specs.Time.{ns}
 use Rattle.codec.specs.Ident.{identBytes}
 use Rattle.codec.specs.Item.{stateBytes, loadLength}
-use Rattle.codec.specs.declared.item.State.the-variants as State
 use Rattle.codec.specs.declared.time.Time.{Time}
+use Rattle.codec.specs.declared.item.State.the-variants as State
 use Rattle.history.specs.Account.{Event}
 use Rattle.history.specs.Ledger.{Limits, Line, Frame, Ledger, Op, stateIn, itemIn, sizeIn, total, isEmpty, waitingIn, offsetIn, lineFor, closesBefore, overdue, close, begin, enter, mirrored, passed, taken, runL}
-use Rattle.history.specs.Ledger as Op
+use Rattle.history.specs.Ledger as Rules
 use Rattle.history.specs.History.{All}
 use Rattle.history.proofs.Machine.{Fit, FitOp}
+use Rattle.history.proofs.TestLaws.{and-yes, or3-no}
 use Rattle.history.proofs.ListLaws.{empty-is}
 
 -- the events of a list of operations
 abbrev pub eventsIn : List Op → List Event
 eventsIn [] = []
-eventsIn (Op.event ev ∷ ops) = ev ∷ eventsIn ops
-eventsIn (Op.deadline t ∷ ops) = eventsIn ops
-eventsIn (Op.take ∷ ops) = eventsIn ops
+eventsIn (Rules.event ev ∷ ops) = ev ∷ eventsIn ops
+eventsIn (Rules.deadline t ∷ ops) = eventsIn ops
+eventsIn (Rules.take ∷ ops) = eventsIn ops
 
 pub fit-events : (c : Limits) (ops : List Op) → All (FitOp c) ops → All (Fit c) (eventsIn ops)
 fit-events c [] p = tt
-fit-events c (Op.event ev ∷ ops) p = (p .0, fit-events c ops (p .1))
-fit-events c (Op.deadline t ∷ ops) p = fit-events c ops (p .1)
-fit-events c (Op.take ∷ ops) p = fit-events c ops (p .1)
+fit-events c (Rules.event ev ∷ ops) p = (p .0, fit-events c ops (p .1))
+fit-events c (Rules.deadline t ∷ ops) p = fit-events c ops (p .1)
+fit-events c (Rules.take ∷ ops) p = fit-events c ops (p .1)
 
-pub and-yes : (a b : Bool) → not a && b ≡ true → (a ≡ false) × (b ≡ true)
-and-yes true b e = absurd (false≢true e)
-and-yes false b e = (refl, e)
-
-pub or3-no : (x y z : Bool) → x || y || z ≡ false → (x ≡ false) × (y ≡ false) × (z ≡ false)
-or3-no true y z e = absurd (true≢false e)
-or3-no false true z e = absurd (true≢false e)
-or3-no false false z e = (refl, refl, e)
-
--- the header of an empty frame
-abbrev pub begun : Time → Ledger → Ledger
-begun t l = record {
+-- an empty frame gets its header, and one with a line stays
+abbrev pub opened : Time → Ledger → Ledger
+opened t l = record {
   closed = l .closed;
   filling = record { sequence = l .next; time = t; lines = [] };
   next = (l .next + 1) % 256;
@@ -53,7 +44,7 @@ begun t l = record {
   taken = l .taken;
 }
 
-pub begin-opens : (t : Time) (l : Ledger) → l .filling .lines ≡ [] → begin t l ≡ begun t l
+pub begin-opens : (t : Time) (l : Ledger) → l .filling .lines ≡ [] → begin t l ≡ opened t l
 unfolding begin
 begin-opens t l e = simp e
 
@@ -61,7 +52,15 @@ pub begin-stays : (t : Time) (l : Ledger) → isEmpty (l .filling .lines) ≡ fa
 unfolding begin
 begin-stays t l e = simp e
 
--- an event's item takes at most this
+pub begin-keeps : (t : Time) (l : Ledger) → (begin t l .closed ≡ l .closed) × (begin t l .taken ≡ l .taken)
+unfolding begin
+begin-keeps t l = go (isEmpty (l .filling .lines))
+  where
+    go : (b : Bool) → (pick b (opened t l) l .closed ≡ l .closed) × (pick b (opened t l) l .taken ≡ l .taken)
+    go true = (refl, refl)
+    go false = (refl, refl)
+
+-- an item is never longer than with its state
 pub size-most : (x : Line) → sizeIn x ≤ 5 + length (identBytes (x .event .ident)) + loadLength (x .event .carries) (length (x .event .payload))
 unfolding sizeIn itemIn stateIn
 size-most x = let m = state-most (x .lost) (x .event .due) (x .event .state) in omega arith
@@ -81,7 +80,7 @@ unfolding overdue
 overdue-filled c l t e = and-yes (isEmpty (l .filling .lines)) _ e .0
 
 -- a ledger by its fields
-pub ledger-path : {l m : Ledger} → l .closed ≡ m .closed → l .filling ≡ m .filling → l .next ≡ m .next → l .lost ≡ m .lost → l .taken ≡ m .taken → l ≡ m
+ledger-path : {l m : Ledger} → l .closed ≡ m .closed → l .filling ≡ m .filling → l .next ≡ m .next → l .lost ≡ m .lost → l .taken ≡ m .taken → l ≡ m
 ledger-path a b d e f = λ i. record { closed = a i; filling = b i; next = d i; lost = e i; taken = f i }
 
 -- a take: one more is taken where one waits, else nothing
@@ -102,13 +101,13 @@ pub record Ready (c : Limits) (ev : Event) (l : Ledger) : Type 0 where
   pub near : offsetIn (l .filling) (ev .time) ≤ 65535
   pub room : Fit c ev → 14 + total (l .filling .lines) + sizeIn (lineFor l ev) ≤ c .size
 
--- in a frame just begun
-begun-ready : (c : Limits) (ev : Event) (l : Ledger) → Ready c ev (begun (ev .time) l)
+-- in a frame just opened
+opened-ready : (c : Limits) (ev : Event) (l : Ledger) → Ready c ev (opened (ev .time) l)
 unfolding offsetIn lineFor
-begun-ready c ev l = record {
+opened-ready c ev l = record {
   later = omega arith;
   near = omega arith;
-  room = λ f. omega (arith, f .size, size-most (lineFor (begun (ev .time) l) ev));
+  room = λ f. omega (arith, f .size, size-most (lineFor (opened (ev .time) l) ev));
 }
 
 -- in a frame that rule 2 leaves open
@@ -123,13 +122,13 @@ left-open c ev l e q =
       ltb-false (c .size) (14 + total (l .filling .lines) + sizeIn (lineFor l ev)) (r .2),
     )
 
-open-ready : (c : Limits) (ev : Event) (l : Ledger) → isEmpty (l .filling .lines) ≡ false → closesBefore c l ev ≡ false → Ready c ev l
+pub open-ready : (c : Limits) (ev : Event) (l : Ledger) → isEmpty (l .filling .lines) ≡ false → closesBefore c l ev ≡ false → Ready c ev l
 open-ready c ev l e q = let r = left-open c ev l e q in record { later = r .0; near = r .1; room = λ f. r .2 }
 
 -- P l h: of the ledger l after the events h, where each event is such as E says
 pub record Moves (c : Limits) (E : Event → Type 0) (P : Ledger → List Event → Type 0) : Type 0 where
   pub close : (l : Ledger) (h : List Event) → isEmpty (l .filling .lines) ≡ false → P l h → P (close c l) h
-  pub begin : (l : Ledger) (h : List Event) (ev : Event) → E ev → l .filling .lines ≡ [] → P l h → P (begun (ev .time) l) h
+  pub begin : (l : Ledger) (h : List Event) (ev : Event) → E ev → l .filling .lines ≡ [] → P l h → P (opened (ev .time) l) h
   pub enter : (l : Ledger) (h : List Event) (ev : Event) → E ev → Ready c ev l → P l h → P (enter ev l) (h ++ (ev ∷ []))
   pub take : (l : Ledger) (h : List Event) (f : Frame) (fs : List Frame) → waitingIn l ≡ f ∷ fs → P l h → P (tookOne l) h
 
@@ -146,7 +145,7 @@ module _ (c : Limits) (E : Event → Type 0) (P : Ledger → List Event → Type
       go : (b : Bool) → isEmpty (l .filling .lines) ≡ b → P (enter ev (begin (ev .time) l)) (h ++ (ev ∷ []))
       go true e =
           let z = empty-is (l .filling .lines) e in
-          rw (begin-opens (ev .time) l z) (m .enter (begun (ev .time) l) h ev x (begun-ready c ev l) (m .begin l h ev x z p))
+          rw (begin-opens (ev .time) l z) (m .enter (opened (ev .time) l) h ev x (opened-ready c ev l) (m .begin l h ev x z p))
       go false e = rw (begin-stays (ev .time) l e) (m .enter l h ev x (k e) p)
 
   event-move : (ev : Event) (l : Ledger) (h : List Event) (b : Bool) → closesBefore c l ev ≡ b → E ev → P l h
@@ -162,7 +161,7 @@ module _ (c : Limits) (E : Event → Type 0) (P : Ledger → List Event → Type
   pub run-move : (l : Ledger) (h : List Event) (ops : List Op) → All E (eventsIn ops) → P l h → P (runL c l ops) (h ++ eventsIn ops)
   unfolding mirrored passed
   run-move l h [] x p = rw append-nil p
-  run-move l h (Op.event ev ∷ ops) x p =
+  run-move l h (Rules.event ev ∷ ops) x p =
       rw (← append-assoc h (ev ∷ []) (eventsIn ops)) (run-move (mirrored c ev l) (h ++ (ev ∷ [])) ops (x .1) (event-move ev l h (closesBefore c l ev) refl (x .0) p))
-  run-move l h (Op.deadline t ∷ ops) x p = run-move (passed c t l) h ops x (close-move (overdue c l t) l h (overdue-filled c l t) p)
-  run-move l h (Op.take ∷ ops) x p = run-move (taken l) h ops x (take-move (waitingIn l) l h refl p)
+  run-move l h (Rules.deadline t ∷ ops) x p = run-move (passed c t l) h ops x (close-move (overdue c l t) l h (overdue-filled c l t) p)
+  run-move l h (Rules.take ∷ ops) x p = run-move (taken l) h ops x (take-move (waitingIn l) l h refl p)

@@ -1,15 +1,13 @@
--- What a take that is answered 0 puts at the front of its output is the oldest waiting frame.
-use Prim.Native.Nat.{ℕ, zero, suc, _+_, _%_, _≤_}
-use mathlib.Core.Path.{_≡_, refl, sym, _∙_, ap}
+-- An accepted take: the oldest waiting frame leaves the framer, and stands at the front of the output.
+use Prim.Native.Nat.{ℕ, _+_, _≤_}
+use mathlib.Core.Path.{_≡_, refl, _∙_, ap}
 use mathlib.Core.Bool.{Bool, true, false}
-use mathlib.Core.List.{List, [], _∷_, _++_, map}
+use mathlib.Core.List.{List, [], _∷_, map}
 use native.Mathlib.Omega.{arith}
 use lib.ListN.{length, take, drop}
 use lib.Seq.{take-at}
 use lib.Dec.{ltb, eqb}
 use borrow.Author.Tests.{eqb-false}
-use Rattle.codec.specs.Choice.{pick}
-use Rattle.codec.specs.Number.{over}
 use Rattle.framer.specs.Meter.{soundMeter}
 use Rattle.framer.specs.Queue.{lengthAt, frameAt}
 use Rattle.framer.specs.Framer.{takeOf, outOf}
@@ -20,53 +18,49 @@ use Rattle.mirror.specs.Call.{Call, stepOf}
 use Rattle.mirror.specs.Call as Call
 use Rattle.mirror.specs.declared.engine.Engine.{Engine}
 use Rattle.history.specs.Ledger.{Limits, Frame, Ledger, waitingIn}
-use Rattle.history.specs.History.{frameOut, slotsFrom}
-use Rattle.history.proofs.Machine.{laid}
-use Rattle.history.proofs.SlotLaws.{Store, frame-length}
-use Rattle.history.proofs.TieLaws.{meterOf}
-use Rattle.history.proofs.SimLaws.{Tied}
+use Rattle.history.specs.Ledger as Rules
+use Rattle.history.specs.History.{frameOut}
+use Rattle.history.proofs.Machine.{laid, stepW}
+use Rattle.history.proofs.TestLaws.{wrong}
+use Rattle.history.proofs.SlotLaws.{frame-length}
+use Rattle.history.proofs.MeterLaws.{meterOf}
+use Rattle.history.proofs.SimLaws.{Tied, slots-are}
 
 -- what a framer's take that is answered 0 does
-record Takes (w : Framer) (out : List ℕ) : Type 0 where
-  waits : w .meter .waiting ≡ 0 → ⊥
-  number : takeOf w (length out) .length ≡ lengthAt (w .queue) (w .meter .first)
-  output : outOf w out ≡ over out 0 (frameAt (w .queue) (w .meter .first))
+pub record Takes (w : Framer) (n : ℕ) : Type 0 where
+  pub waits : w .meter .waiting ≡ 0 → ⊥
+  pub number : takeOf w n .length ≡ lengthAt (w .queue) (w .meter .first)
+  pub framer : takeOf w n .framer ≡ stepW w Rules.take
 
-takes : (w : Framer) (out : List ℕ) → soundMeter (w .meter) ≡ true → takeOf w (length out) .answer ≡ 0 → Takes w out
-unfolding takeOf outOf
-takes w out s z = go (eqb (w .meter .waiting) 0) (ltb (length out) (lengthAt (w .queue) (w .meter .first))) refl refl
+pub takes : (w : Framer) (n : ℕ) → takeOf w n .answer ≡ 0 → Takes w n
+unfolding takeOf
+takes w n z = go (soundMeter (w .meter)) (eqb (w .meter .waiting) 0) (ltb n (lengthAt (w .queue) (w .meter .first))) refl refl refl
   where
-    go : (a b : Bool) → eqb (w .meter .waiting) 0 ≡ a → ltb (length out) (lengthAt (w .queue) (w .meter .first)) ≡ b → Takes w out
-    go true b p q = let y : _≡_ {A = ℕ} 13 0 = rw (s, p) at z in let k : ⊥ = omega arith in absurd k
-    go false true p q = let y : _≡_ {A = ℕ} 12 0 = rw (s, p, q) at z in let k : ⊥ = omega arith in absurd k
-    go false false p q = record { waits = eqb-false (w .meter .waiting) 0 p; number = rw (s, p, q); output = rw (s, p, q) }
-
-abbrev first : List (List ℕ) → List ℕ
-first [] = []
-first (x ∷ xs) = x
+    go : (a b d : Bool) → soundMeter (w .meter) ≡ a → eqb (w .meter .waiting) 0 ≡ b → ltb n (lengthAt (w .queue) (w .meter .first)) ≡ d → Takes w n
+    go false b d p q r = wrong 18 (rw p at z)
+    go true true d p q r = wrong 12 (rw (p, q) at z)
+    go true false true p q r = wrong 11 (rw (p, q, r) at z)
+    go true false false p q r = record { waits = eqb-false (w .meter .waiting) 0 q; number = rw (p, q, r); framer = rw (p, q, r) }
 
 -- the slot of the oldest waiting frame
-oldest : (c : Limits) (w : Framer) (l : Ledger) (fs : List Frame) → Tied c w l → waitingIn l ≡ fs → (w .meter .waiting ≡ 0 → ⊥)
-    → frameAt (w .queue) (w .meter .first) ∷ [] ≡ map laid (take 1 fs)
-unfolding meterOf
-oldest c w l [] t e n = absurd (n (rw (t .tie .meter) (ap length e)))
-oldest c w l (f ∷ fs) t e n =
-    let s : slotsFrom (w .queue) (l .taken) (suc (length fs)) ≡ laid f ∷ map laid fs
-    = sym (ap (λ (x : List Frame). slotsFrom (w .queue) (l .taken) (length x)) e) ∙ t .tie .slots ∙ ap (map laid) e in
-    rw (t .tie .meter) (ap (λ (x : List ℕ). x ∷ []) (ap first s))
+module _ (c : Limits) (w : Framer) (l : Ledger) (t : Tied c w l) where
+  oldest : (fs : List Frame) → waitingIn l ≡ fs → (w .meter .waiting ≡ 0 → ⊥) → frameAt (w .queue) (w .meter .first) ∷ [] ≡ map laid (take 1 fs)
+  unfolding meterOf
+  oldest [] e n = absurd (n (rw (t .tie .meter) (ap length e)))
+  oldest (f ∷ fs) e n = rw (t .tie .meter) (ap (take 1) (slots-are c w l (t .tie) (f ∷ fs) e))
 
-first-small : (c : Limits) (w : Framer) (l : Ledger) → Tied c w l → w .meter .first ≤ 7
-unfolding meterOf
-first-small c w l t = rw (t .tie .meter) (omega arith)
+  first-small : w .meter .first ≤ 7
+  unfolding meterOf
+  first-small = rw (t .tie .meter) (omega arith)
 
 pub take-out : (c : Limits) (e : Engine) (l : Ledger) (out : List ℕ) → Tied c (e .framer) l → soundOf e ≡ true → stepOf e (Call.take out) .said .answer ≡ 0
     → frameOut (Call.take out) (stepOf e (Call.take out) .said) ≡ map laid (take 1 (waitingIn l))
-unfolding takenOf outputOf
+unfolding takenOf outputOf outOf
 take-out c e l out t s z =
     let w : Framer = e .framer in
-    let k : Takes w out = takes w out (t .sound) (rw s at z) in
-    let n : length (frameAt (w .queue) (w .meter .first)) ≡ lengthAt (w .queue) (w .meter .first)
-    = frame-length (w .queue) (w .meter .first) (t .tie .store) (first-small c w l t) in
-    rw (s, k .number, k .output)
-    (ap (λ (x : List ℕ). x ∷ []) (take-at (frameAt (w .queue) (w .meter .first)) (drop (0 + length (frameAt (w .queue) (w .meter .first))) out) (lengthAt (w .queue) (w .meter .first)) n)
-    ∙ oldest c w l (waitingIn l) t refl (k .waits))
+    let y : takeOf w (length out) .answer ≡ 0 = rw s at z in
+    let k = takes w (length out) y in
+    let bs : List ℕ = frameAt (w .queue) (w .meter .first) in
+    let n : length bs ≡ lengthAt (w .queue) (w .meter .first) = frame-length (w .queue) (w .meter .first) (t .tie .store) (first-small c w l t) in
+    rw (s, y, k .number)
+    (ap (λ (x : List ℕ). x ∷ []) (take-at bs (drop (0 + length bs) out) (lengthAt (w .queue) (w .meter .first)) n) ∙ oldest c w l t (waitingIn l) refl (k .waits))

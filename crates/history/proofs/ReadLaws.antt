@@ -1,8 +1,8 @@
--- What a reader makes of a frame of the ledger. Assumes nothing.
+-- What a reader makes of a frame of the ledger.
 use Prim.Native.Nat.{ℕ, _≤_}
-use native.Mathlib.Omega.{arith}
 use mathlib.Core.Path.{refl, _∙_}
 use mathlib.Core.List.{List, [], _∷_, map}
+use native.Mathlib.Omega.{arith}
 use Rattle.codec.specs.declared.time.Time.{Time}
 use Rattle.codec.proofs.TimeLaws.{recovered-exact}
 use Rattle.reader.specs.Listing.{listing}

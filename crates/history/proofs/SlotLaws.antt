@@ -6,10 +6,9 @@ use mathlib.Core.List.{List, [], _∷_, _++_, append-assoc}
 use native.Mathlib.Omega.{arith}
 use lib.ListN.{length, take, drop, getD, set, length-append, length-set, length-drop}
 use lib.Seq.{length-take-le, take-append-le, take-take, take-add, take-at, drop-at, drop-append-add, drop-drop, getD-set-same, getD-set-other}
-use lib.Dec.{ltb, leb}
+use lib.Dec.{ltb}
 use borrow.Author.Tests.{le-leb, ltb-true, ltb-false}
-use Rattle.codec.specs.Choice.{pick}
-use Rattle.codec.specs.Number.{over, fits}
+use Rattle.codec.specs.Number.{over}
 use Rattle.codec.specs.Field.{bytesAt}
 use Rattle.codec.proofs.NumberLaws.{length-over, has-room}
 use Rattle.framer.specs.Queue.{queued, lengthAt, frameAt}
@@ -40,7 +39,7 @@ module _ (l : List ℕ) (a : ℕ) (bs : List ℕ) (h : a ≤ length l) where
       rw (append-assoc (take a l) bs (drop (a + length bs) l), take-append-le n (take a l) (bs ++ drop (a + length bs) l) (omega (arith, length-take-le a l h)))
       (take-take n a l g)
 
--- a part is a part of the front
+-- a part that ends before the place
 part-front : (l : List ℕ) (b n : ℕ) → b ≤ length l → take n (drop b l) ≡ drop b (take (b + n) l)
 part-front l b n h = sym (rw (take-add b n l) (drop-at (take b l) (take n (drop b l)) b (length-take-le b l h)))
 
@@ -49,7 +48,7 @@ over-before l a bs h b n g =
     part-front (over l a bs) b n (omega (arith, length-over l a bs h))
     ∙ ap (λ (x : List ℕ). drop b x) (over-front l a bs (omega arith) (b + n) g) ∙ sym (part-front l b n (omega arith))
 
-pub part-is : (s : List ℕ) (at n : ℕ) → at + n ≤ length s → bytesAt s at n ≡ take n (drop at s)
+part-is : (s : List ℕ) (at n : ℕ) → at + n ≤ length s → bytesAt s at n ≡ take n (drop at s)
 unfolding bytesAt
 part-is s at n h = rw (has-room s at n h)
 
@@ -58,6 +57,7 @@ pub record Store (q : Queue) : Type 0 where
   pub bytes : length (q .bytes) ≡ 8192
   pub lengths : length (q .lengths) ≡ 8
 
+-- what stands in a slot
 length-at : (q : Queue) (k : ℕ) → k ≤ 7 → lengthAt q k ≡ min (getD (q .lengths) k 0) 1024
 unfolding lengthAt
 length-at q k h = rw (le-leb k 7 h)
@@ -70,6 +70,7 @@ frame-length q k s h =
     rw (frame-at q k s h, length-at q k h)
     (length-take-le (min (getD (q .lengths) k 0) 1024) (drop (k * 1024) (q .bytes)) (rw length-drop (omega (arith, s .bytes))))
 
+-- a frame put in a slot stands there, and the other slots stay
 module _ (q : Queue) (slot : ℕ) (frame : List ℕ) (s : Store q) (hs : slot ≤ 7) (hf : length frame ≤ 1024) where
   put-is : queued q slot frame ≡ record { bytes = over (q .bytes) (slot * 1024) frame; lengths = set (q .lengths) slot (length frame) }
   put-is = sym (put-in q slot frame (over (q .bytes) (slot * 1024) frame) hf hs refl)
@@ -118,7 +119,3 @@ module _ (q : Queue) (slot : ℕ) (frame : List ℕ) (s : Store q) (hs : slot �
 pub ring : (q : Queue) (k j n : ℕ) → k % 8 ≡ j % 8 → slotsFrom q k n ≡ slotsFrom q j n
 ring q k j zero e = refl
 ring q k j (suc n) e = rw (e, ring q (suc k) (suc j) n (omega arith))
-
-pub slots-length : (q : Queue) (k n : ℕ) → length (slotsFrom q k n) ≡ n
-slots-length q k zero = refl
-slots-length q k (suc n) = ap suc (slots-length q (suc k) n)

@@ -1,55 +1,42 @@
 -- Demand 3: what any sequence of calls after an accepted setup leaves behind.
-use Prim.Native.Nat.{ℕ, zero, suc, _+_, _%_, _≤_, _<_, min}
+use Prim.Native.Nat.{ℕ, _%_, _≤_, min}
 use mathlib.Core.Path.{_≡_, refl, sym, _∙_, ap}
 use mathlib.Core.Bool.{Bool, true, false}
-use mathlib.Core.List.{List, [], _∷_, _++_, map, append-assoc, append-nil}
+use mathlib.Core.List.{List, [], _∷_, _++_, map, map-append, append-nil}
 use native.Mathlib.Omega.{arith}
-use lib.ListN.{length, take, drop, length-map, take-append-drop}
-use lib.Seq.{length-take-le}
+use lib.ListN.{length, take}
 use lib.Dec.{eqb}
 use borrow.Author.Tests.{eqb-true, eqb-false}
 use Rattle.codec.specs.Choice.{pick}
-use Rattle.codec.specs.declared.time.Time.{Time}
-use Rattle.mirror.specs.Engine.{soundOf, discardsOf}
 use Rattle.framer.specs.declared.meter.Meter.{Meter}
-use Rattle.mirror.specs.Call.{Call, Said, Step, stepOf, runOf}
+use Rattle.mirror.specs.Engine.{soundOf, discardsOf}
+use Rattle.mirror.specs.Call.{Call, stepOf, runOf}
 use Rattle.mirror.specs.Call as Call
 use Rattle.mirror.specs.declared.engine.Engine.{Engine}
 use Rattle.mirror.proofs.Refused.{refused-keeps, not-broken}
-use Rattle.history.specs.Account.{Account, Event, accountsFor, stateEvents}
-use Rattle.history.specs.Ledger.{Limits, Frame, Closed, Ledger, Op, emptyLedger, isEmpty, keptIn, discardedIn, takenIn, waitingIn, fillingIn, stepL, runL}
-use Rattle.history.specs.Ledger as Rules
+use Rattle.history.specs.Account.{Account, accountsFor, stateEvents}
+use Rattle.history.specs.Ledger.{Limits, Ledger, Op, emptyLedger, isEmpty, keptIn, discardedIn, takenIn, waitingIn, fillingIn, runL}
 use Rattle.history.specs.Deed.{Deed, deedsOf, done, opsOf, accountsBy, opsOn, ledgerOf}
-use Rattle.history.specs.History.{Plain, All, Both, Reads, frameOut, framesTaken, framesWaiting, framesFilling, History}
-use Rattle.history.proofs.Machine.{FitOp, laid, runW}
-use Rattle.history.proofs.ListLaws.{all-append}
-use Rattle.history.proofs.LedgerLaws.{SoundL, sound, closes-at, items-are}
+use Rattle.history.specs.History.{Plain, All, frameOut, framesTaken, framesWaiting, framesFilling, History}
+use Rattle.history.proofs.Machine.{FitOp, laid, runW, run-append}
+use Rattle.history.proofs.ListLaws.{all-append, all-map, all-take, all-drop}
+use Rattle.history.proofs.LedgerLaws.{closes-at, items-are}
+use Rattle.history.proofs.TakeLaws.{gotOn, got-append, got-tick, run-took}
 use Rattle.history.proofs.DeedLaws.{events-in}
 use Rattle.history.proofs.MarkLaws.{marks-are}
-use Rattle.history.proofs.FrameLaws.{Good, good-frames, good-filling, good-kept, laid-length}
+use Rattle.history.proofs.FrameLaws.{Good, good-frames, good-filling, good-kept}
 use Rattle.history.proofs.ReadLaws.{all-read}
-use Rattle.history.proofs.PadLaws.{take-pad}
 use Rattle.history.proofs.SlotLaws.{ring}
-use Rattle.history.proofs.TieLaws.{meterOf, filledIn, filled-zero, filled-open}
-use Rattle.history.proofs.SimLaws.{Tied, empty-tied, imageIn, image-open, limits-of, run-tied, map-append}
-use Rattle.history.proofs.TakeLaws.{gotOn, run-took}
+use Rattle.history.proofs.MeterLaws.{meterOf, filledIn, filled-zero}
+use Rattle.history.proofs.FillLaws.{image-front}
+use Rattle.history.proofs.SimLaws.{Tied, size-is, size-limit, run-tied, empty-tied}
 use Rattle.history.proofs.OutputLaws.{take-out}
-use Rattle.history.proofs.EngineLaws.{bookOf, setup-framer, setup-book, setup-steady, Steady, run-append, step-book, step-framer, step-fit, step-steady}
-
-got-append : (c : Limits) (l : Ledger) (a b : List Op) → gotOn c l (a ++ b) ≡ gotOn c l a ++ gotOn c (runL c l a) b
-got-append c l [] b = refl
-got-append c l (op ∷ a) b = rw (got-append c (stepL c l op) a b) (rw append-assoc)
-
--- events take no frame
-got-events : (c : Limits) (l : Ledger) (evs : List Event) → gotOn c l (map Rules.event evs) ≡ []
-got-events c l [] = refl
-got-events c l (ev ∷ evs) = got-events c (stepL c l (Rules.event ev)) evs
-
-got-tick : (c : Limits) (l : Ledger) (evs : List Event) (t : Time) → gotOn c l (map Rules.event evs ++ (Rules.deadline t ∷ [])) ≡ []
-got-tick c l evs t = got-append c l (map Rules.event evs) (Rules.deadline t ∷ []) ∙ rw (got-events c l evs)
+use Rattle.history.proofs.BookLaws.{bookOf, Steady}
+use Rattle.history.proofs.SetupLaws.{setup-limits, setup-framer, setup-book, setup-steady}
+use Rattle.history.proofs.EngineLaws.{step-book, step-framer, step-fit, step-steady}
 
 -- only a take hands out a frame
-out-by : (c : Limits) (e : Engine) (l : Ledger) (x : Call) → Steady (c .size) e → Tied c (e .framer) l → stepOf e x .said .answer ≡ 0
+out-by : (c : Limits) (e : Engine) (l : Ledger) (x : Call) → Steady e → Tied c (e .framer) l → stepOf e x .said .answer ≡ 0
     → frameOut x (stepOf e x .said) ≡ map laid (gotOn c l (opsOf (bookOf e) x))
 unfolding opsOf
 out-by c e l (Call.take out) s t z = take-out c e l out t (s .sound) z ∙ ap (map laid) (sym (append-nil (take 1 (waitingIn l))))
@@ -74,7 +61,7 @@ out-by c e l (Call.slots source low high lowCycle highCycle repetition) s t z = 
 out-by c e l (Call.remove source number) s t z = refl
 out-by c e l Call.discards s t z = refl
 
--- the operations of one deed
+-- one call, accepted or not: the operations of its deed, and what they leave
 unfoldable opsBy : List Account → Deed → List Op
 opsBy book d = pick (done d) (opsOf book (d .call)) []
 
@@ -87,7 +74,7 @@ record Stepped (c : Limits) (e : Engine) (l : Ledger) (x : Call) : Type 0 where
   fit : All (FitOp c) (opsBy (bookOf e) (deedOf e x))
   out : pick (done (deedOf e x)) (frameOut x (stepOf e x .said)) [] ≡ map laid (gotOn c l (opsBy (bookOf e) (deedOf e x)))
 
-stepped : (c : Limits) (e : Engine) (l : Ledger) (x : Call) → Steady (c .size) e → Plain x → Tied c (e .framer) l → Stepped c e l x
+stepped : (c : Limits) (e : Engine) (l : Ledger) (x : Call) → Steady e → Plain x → Tied c (e .framer) l → Stepped c e l x
 unfolding opsBy accountsBy done
 stepped c e l x s p t = go (eqb (stepOf e x .said .answer) 0) refl
   where
@@ -95,9 +82,9 @@ stepped c e l x s p t = go (eqb (stepOf e x .said .answer) 0) refl
     go true q =
         let z = eqb-true (stepOf e x .said .answer) 0 q in
         record {
-          book = rw q (step-book (c .size) e x s p z);
-          framer = rw q (step-framer (c .size) e x s p z);
-          fit = rw q (step-fit (c .size) e x s p c refl z);
+          book = rw q (step-book e x s p z);
+          framer = rw q (step-framer e x s p z);
+          fit = rw q (step-fit e x s p c (size-is c (e .framer) l t) z);
           out = rw q (out-by c e l x s t z);
         }
     go false q =
@@ -105,32 +92,33 @@ stepped c e l x s p t = go (eqb (stepOf e x .said .answer) 0) refl
         record { book = rw (q, k); framer = rw (q, k); fit = rw q tt; out = rw q }
 
 -- any list of calls
-pub record Ran (c : Limits) (e : Engine) (l : Ledger) (xs : List Call) : Type 0 where
-  pub framer : runOf e xs .framer ≡ runW (e .framer) (opsOn (bookOf e) (deedsOf e xs))
-  pub fit : All (FitOp c) (opsOn (bookOf e) (deedsOf e xs))
-  pub steady : Steady (c .size) (runOf e xs)
-  pub out : framesTaken (deedsOf e xs) ≡ map laid (gotOn c l (opsOn (bookOf e) (deedsOf e xs)))
-  pub answers : All (λ (d : Deed). d .said .answer ≡ 19 → ⊥) (deedsOf e xs)
+record Ran (c : Limits) (e : Engine) (l : Ledger) (xs : List Call) : Type 0 where
+  framer : runOf e xs .framer ≡ runW (e .framer) (opsOn (bookOf e) (deedsOf e xs))
+  fit : All (FitOp c) (opsOn (bookOf e) (deedsOf e xs))
+  steady : Steady (runOf e xs)
+  out : framesTaken (deedsOf e xs) ≡ map laid (gotOn c l (opsOn (bookOf e) (deedsOf e xs)))
+  answers : All (λ (d : Deed). d .said .answer ≡ 19 → ⊥) (deedsOf e xs)
 
 ops-more : (c : Limits) (e : Engine) (l : Ledger) (x : Call) (xs : List Call) → Stepped c e l x
     → opsOn (bookOf e) (deedsOf e (x ∷ xs)) ≡ opsBy (bookOf e) (deedOf e x) ++ opsOn (bookOf (stepOf e x .engine)) (deedsOf (stepOf e x .engine) xs)
 unfolding opsBy
 ops-more c e l x xs n = rw (n .book)
 
-ran : (c : Limits) (e : Engine) (l : Ledger) (xs : List Call) → Steady (c .size) e → All Plain xs → Tied c (e .framer) l → Ran c e l xs
+ran : (c : Limits) (e : Engine) (l : Ledger) (xs : List Call) → Steady e → All Plain xs → Tied c (e .framer) l → Ran c e l xs
 ran c e l [] s p t = record { framer = refl; fit = tt; steady = s; out = refl; answers = tt }
 ran c e l (x ∷ xs) s p t =
     let n = stepped c e l x s (p .0) t in
     let u : Engine = stepOf e x .engine in
     let a : List Op = opsBy (bookOf e) (deedOf e x) in
+    let b : List Op = opsOn (bookOf u) (deedsOf u xs) in
     let k : Tied c (u .framer) (runL c l a) = rw (n .framer) (run-tied c (e .framer) l a t (n .fit)) in
-    let r = ran c u (runL c l a) xs (step-steady (c .size) e x s (p .0)) (p .1) k in
-    let o : opsOn (bookOf e) (deedsOf e (x ∷ xs)) ≡ a ++ opsOn (bookOf u) (deedsOf u xs) = ops-more c e l x xs n in
+    let r = ran c u (runL c l a) xs (step-steady e x s (p .0)) (p .1) k in
+    let o : opsOn (bookOf e) (deedsOf e (x ∷ xs)) ≡ a ++ b = ops-more c e l x xs n in
     record {
-      framer = rw (o, run-append (e .framer) a (opsOn (bookOf u) (deedsOf u xs)), ← n .framer) (r .framer);
-      fit = rw o (all-append (FitOp c) a (opsOn (bookOf u) (deedsOf u xs)) (n .fit) (r .fit));
+      framer = rw (o, run-append (e .framer) a b, ← n .framer) (r .framer);
+      fit = rw o (all-append (FitOp c) a b (n .fit) (r .fit));
       steady = r .steady;
-      out = rw (o, got-append c l a (opsOn (bookOf u) (deedsOf u xs)), map-append laid (gotOn c l a) (gotOn c (runL c l a) (opsOn (bookOf u) (deedsOf u xs))), n .out, r .out);
+      out = rw (o, got-append c l a b, map-append laid (gotOn c l a) (gotOn c (runL c l a) b), n .out, r .out);
       answers = (λ z. let y = not-broken e x (s .sound) in omega (arith, z), r .answers);
     }
 
@@ -148,30 +136,14 @@ module _ (c : Limits) (e : Engine) (l : Ledger) (t : Tied c (e .framer) l) where
       go : (b : Bool) → isEmpty (l .filling .lines) ≡ b
           → pick b [] (take (filledIn (l .filling .lines)) (e .framer .bytes) ∷ []) ≡ map laid (pick b [] (l .filling ∷ []))
       go true q = refl
-      go false q =
-          ap (λ (x : List ℕ). x ∷ [])
-          (rw (t .tie .bytes, image-open (l .filling) q) (take-pad (laid (l .filling)) (filledIn (l .filling .lines)) (filled-open (l .filling .lines) q ∙ sym (laid-length (l .filling)))))
+      go false q = ap (λ (x : List ℕ). x ∷ []) (rw (t .tie .bytes) (image-front (l .filling) q))
 
   discards-are : soundOf e ≡ true → discardsOf e .count ≡ min (length (discardedIn (l .closed))) 4294967295
   unfolding discardsOf meterOf
   discards-are s = rw s (ap (λ (m : Meter). m .discards) (t .tie .meter))
 
-all-map : {A : Type 0} (P Q : A → Type 0) → ((x : A) → P x → Q x) → (xs : List A) → All P xs → All Q xs
-all-map P Q f [] p = tt
-all-map P Q f (x ∷ xs) p = (f x (p .0), all-map P Q f xs (p .1))
-
-all-take : {A : Type 0} (P : A → Type 0) (n : ℕ) (xs : List A) → All P xs → All P (take n xs)
-all-take P zero xs p = tt
-all-take P (suc n) [] p = tt
-all-take P (suc n) (x ∷ xs) p = (p .0, all-take P n xs (p .1))
-
-all-drop : {A : Type 0} (P : A → Type 0) (n : ℕ) (xs : List A) → All P xs → All P (drop n xs)
-all-drop P zero xs p = p
-all-drop P (suc n) [] p = tt
-all-drop P (suc n) (x ∷ xs) p = all-drop P n xs (p .1)
-
 -- from an engine that is tied to the empty ledger
-module _ (c : Limits) (e : Engine) (calls : List Call) (s : Steady (c .size) e) (t : Tied c (e .framer) emptyLedger) (p : All Plain calls) where
+module _ (c : Limits) (e : Engine) (calls : List Call) (s : Steady e) (t : Tied c (e .framer) emptyLedger) (p : All Plain calls) where
   abbrev ops : List Op
   ops = opsOn (bookOf e) (deedsOf e calls)
 
@@ -189,12 +161,12 @@ module _ (c : Limits) (e : Engine) (calls : List Call) (s : Steady (c .size) e) 
   taken-are = run-is .out ∙ ap (map laid) (sym (run-took c emptyLedger ops (t .ledger)))
 
   small : c .size ≤ 1024
-  small = limits-of c (e .framer) emptyLedger t .0
+  small = size-limit c (e .framer) emptyLedger t
 
   good : All (Good c) (keptIn (end .closed))
   good = good-kept c ops small (run-is .fit)
 
-  pub from-empty : History c (bookOf e) e calls
+  from-empty : History c (bookOf e) e calls
   unfolding ledgerOf takenIn waitingIn
   from-empty = record {
     taken = rw taken-are (all-read c (takenIn end) (all-take (Good c) (end .taken) (keptIn (end .closed)) good));
@@ -214,7 +186,6 @@ pub history : (e : Engine) (size room deadline : ℕ) (pairs : List ℕ) (calls 
     → History (record { size = size; room = room; deadline = deadline }) (accountsFor pairs) (stepOf e (Call.setup size room deadline pairs) .engine) calls
 history e size room deadline pairs calls z p =
     let c : Limits = record { size = size; room = room; deadline = deadline } in
-    let f = setup-framer e size room deadline pairs z in
     rw (← setup-book e size room deadline pairs z)
     (from-empty c (stepOf e (Call.setup size room deadline pairs) .engine) calls (setup-steady e size room deadline pairs z)
-    (rw (f .0) (empty-tied size room deadline (f .1))) p)
+    (rw (setup-framer e size room deadline pairs z) (empty-tied c (setup-limits e size room deadline pairs z))) p)

@@ -1,5 +1,4 @@
 -- Calls with what the engine said to each, and what they come to in the ledger. A call that was not answered 0 comes to nothing.
-use Prim.Native.Nat.{ℕ}
 use mathlib.Core.Bool.{Bool}
 use mathlib.Core.List.{List, [], _∷_, _++_, map}
 use lib.Dec.{eqb}

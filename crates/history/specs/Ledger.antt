@@ -1,7 +1,7 @@
 -- The ledger of frames: it knows no bytes and never forgets (01, rules 1 to 4, 6 and 7).
 use Prim.Native.Nat.{ℕ, _+_, _-_, _*_, _/_, _%_}
 use mathlib.Core.Bool.{Bool, true, false, not, _&&_, _||_}
-use mathlib.Core.List.{List, [], _∷_, _++_, map}
+use mathlib.Core.List.{List, [], _∷_, _++_}
 use lib.ListN.{length, drop}
 use lib.ListN as ListN
 use lib.Dec.{ltb, leb}

@@ -1,38 +1,37 @@
--- The framer is the ledger: its numbers, the bytes of the frame being filled, and the slots of those that wait.
-use Prim.Native.Nat.{ℕ, zero, suc, _+_, _-_, _*_, _/_, _%_, _≤_, _<_, min}
+-- The framer's numbers are those of the ledger, the rules' tests give the same answers, and each step changes both alike.
+use Prim.Native.Nat.{ℕ, suc, _+_, _-_, _/_, _%_, _≤_, _<_, min}
 use mathlib.Core.Path.{_≡_, refl, sym, _∙_, ap}
-use mathlib.Core.Bool.{Bool, true, false, not, _&&_, _||_, true≢false, false≢true}
-use mathlib.Core.List.{List, [], _∷_, _++_, map, append-assoc, append-nil}
+use mathlib.Core.Bool.{Bool, true, false, not, _&&_, _||_}
+use mathlib.Core.List.{List, [], _∷_, _++_}
 use native.Mathlib.Omega.{arith}
-use native.Mathlib.Numerals.{add-one}
-use lib.ListN.{length, take, drop, replicate, length-append}
-use lib.Seq.{drop-append-le}
+use lib.ListN.{length}
 use lib.Dec.{ltb, leb, eqb}
-use borrow.Author.Tests.{eq-eqb, ne-eqb, ltb-true, ltb-false, le-ltb, lt-ltb, le-leb, lt-leb}
-use Rattle.codec.specs.Choice.{pick, bit}
-use Rattle.codec.specs.Time.{ns, elapsed, ticksOf}
+use borrow.Author.Tests.{ne-eqb, le-ltb, le-leb}
+use Rattle.codec.specs.Choice.{pick}
+use Rattle.codec.specs.Time.{ns, elapsed, ticksOf, overdueOf}
 use Rattle.codec.specs.Item.{itemLength}
 use Rattle.codec.specs.declared.time.Time.{Time}
 use Rattle.codec.specs.declared.time.Ticks.{Ticks}
-use Rattle.codec.specs.declared.time.Millis.{Millis}
 use Rattle.codec.specs.declared.time.Elapsed.the-variants as Elapsed
-use Rattle.codec.specs.declared.item.Item.{Item}
 use Rattle.codec.proofs.BoolLaws.{or-false, or-true}
-use Rattle.framer.specs.Meter.{soundMeter, isWithin, ticksIn, stateShown, itemOf, offsetFor, closesFor, slotOf, counted, closedMeter, startOf, placedMeter, takenMeter}
+use Rattle.framer.specs.Meter.{isWithin, ticksIn, stateShown, itemOf, offsetFor, closesFor, counted, closedMeter, placedMeter, takenMeter}
 use Rattle.framer.specs.Framer.{itemSize, filledMeter}
 use Rattle.framer.specs.declared.meter.Meter.{Meter}
 use Rattle.history.specs.Account.{Event}
-use Rattle.history.specs.Ledger.{Limits, Line, Frame, Closed, Ledger, stateIn, itemIn, sizeIn, total, isEmpty, keptIn, discardedIn, waitingIn, offsetIn, lineFor, closesBefore, hasRoom, close, enter}
+use Rattle.history.specs.Ledger.{Limits, Line, Frame, Ledger, stateIn, itemIn, sizeIn, total, isEmpty, discardedIn, waitingIn, offsetIn, lineFor, closesBefore, hasRoom, overdue, close, enter, taken}
 use Rattle.history.proofs.Machine.{offerIn}
 use Rattle.history.proofs.BitLaws.{raise-lost}
-use Rattle.history.proofs.ListLaws.{kept-append, discarded-append, snoc-filled}
-use Rattle.history.proofs.Moves.{begun}
+use Rattle.history.proofs.TestLaws.{not-leb}
+use Rattle.history.proofs.ListLaws.{snoc-filled}
+use Rattle.history.proofs.Moves.{opened, taken-none, taken-one, tookOne}
+use Rattle.history.proofs.LedgerLaws.{SoundL, close-waits, close-discards, took-waiting}
+use Rattle.history.proofs.FrameLaws.{total-more}
 
 -- how far the frame being filled is written
 unfoldable pub filledIn : List Line → ℕ
 filledIn xs = pick (isEmpty xs) 0 (14 + total xs)
 
--- the framer's numbers
+-- the framer's numbers where the ledger is l
 unfoldable pub meterOf : Limits → Ledger → Meter
 meterOf c l = record {
   size = c .size;
@@ -47,7 +46,8 @@ meterOf c l = record {
   waiting = length (waitingIn l);
 }
 
-pub meter-path : {m n : Meter} → m .size ≡ n .size → m .room ≡ n .room → m .deadline ≡ n .deadline → m .filled ≡ n .filled → m .time ≡ n .time
+-- a meter by its fields
+meter-path : {m n : Meter} → m .size ≡ n .size → m .room ≡ n .room → m .deadline ≡ n .deadline → m .filled ≡ n .filled → m .time ≡ n .time
     → m .sequence ≡ n .sequence → m .lost ≡ n .lost → m .discards ≡ n .discards → m .first ≡ n .first → m .waiting ≡ n .waiting → m ≡ n
 meter-path a b d f g h i j k o = λ x. record {
   size = a x;
@@ -70,11 +70,12 @@ item-same true k ev h = rw (raise-lost (ev .state) h)
 item-same false k ev h = refl
 
 -- and as long, wherever it stands
-pub size-same : (l : Ledger) (ev : Event) (k : Ticks) → ev .state < 128
+size-same : (l : Ledger) (ev : Event) (k : Ticks) → ev .state < 128
     → itemLength (itemOf (l .lost) k (offerIn ev)) (length (ev .payload)) ≡ sizeIn (lineFor l ev)
 unfolding sizeIn lineFor itemIn stateIn
 size-same l ev k h = rw (item-same (l .lost) (k .0) ev h)
 
+-- 0 says that the frame has no line
 pub filled-zero : (xs : List Line) → eqb (filledIn xs) 0 ≡ isEmpty xs
 unfolding filledIn
 filled-zero [] = refl
@@ -83,13 +84,6 @@ filled-zero (x ∷ xs) = ne-eqb (14 + total (x ∷ xs)) 0 (λ e. let z : ⊥ = o
 pub filled-open : (xs : List Line) → isEmpty xs ≡ false → filledIn xs ≡ 14 + total xs
 unfolding filledIn
 filled-open xs e = rw e
-
-not-leb : (a b : ℕ) → not (leb a b) ≡ ltb b a
-not-leb a b = go (ltb b a) refl
-  where
-    go : (x : Bool) → ltb b a ≡ x → not (leb a b) ≡ ltb b a
-    go true e = rw (e, lt-leb a b (ltb-true b a e))
-    go false e = rw (e, le-leb a b (ltb-false b a e))
 
 -- rule 2's two tests of time are the measure's answers
 not-within : (h t : ℕ) → not (isWithin (elapsed h t)) ≡ (ltb t h || ltb 65535 ((t - h) / 10000))
@@ -118,64 +112,43 @@ closes-same c l ev h =
     (filledIn (l .filling .lines)) (14 + total (l .filling .lines)) (itemLength (itemOf (l .lost) (record { 0 = 0 }) (offerIn ev)) (length (ev .payload))) (sizeIn (lineFor l ev))
     (filled-open (l .filling .lines)) (size-same l ev (record { 0 = 0 }) h))
 
+-- rule 6
+pub overdue-same : (c : Limits) (l : Ledger) (x : Time)
+    → not (eqb (meterOf c l .filled) 0) && overdueOf (ns (meterOf c l .time)) (ns x) (meterOf c l .deadline .0) ≡ overdue c l x
+unfolding meterOf overdue overdueOf
+overdue-same c l x = rw (filled-zero (l .filling .lines))
+
 -- the ticks since the header time
 pub ticks-same : (h t : ℕ) → h ≤ t → (t - h) / 10000 ≤ 65535 → ticksIn (elapsed h t) ≡ record { 0 = (t - h) / 10000 }
 unfolding elapsed ticksOf
 ticks-same h t a b = rw (le-ltb t h a, le-leb ((t - h) / 10000) 65535 b)
 
--- rule 3: what waits, and what was discarded, after a closing
-kept-close : (ks : List Closed) (f : Frame) (b : Bool) (n : ℕ) → n ≤ length (keptIn ks)
-    → drop n (keptIn (ks ++ (record { frame = f; kept = b } ∷ []))) ≡ drop n (keptIn ks) ++ pick b (f ∷ []) []
-kept-close ks f b n h =
-    rw (kept-append ks (record { frame = f; kept = b } ∷ []), append-nil (pick b (f ∷ []) [])) (drop-append-le n (keptIn ks) (pick b (f ∷ []) []) h)
-
-waits-close : (ks : List Closed) (f : Frame) (b : Bool) (n : ℕ) → n ≤ length (keptIn ks)
-    → length (drop n (keptIn (ks ++ (record { frame = f; kept = b } ∷ [])))) ≡ length (drop n (keptIn ks)) + bit b
-waits-close ks f true n h = rw (kept-close ks f true n h) (length-append (drop n (keptIn ks)) (f ∷ []))
-waits-close ks f false n h = rw (kept-close ks f false n h, append-nil) (omega arith)
-
-count-close : (ks : List Closed) (f : Frame) (b : Bool) → length (discardedIn (ks ++ (record { frame = f; kept = b } ∷ []))) ≡ length (discardedIn ks) + bit (not b)
-count-close ks f true = rw (discarded-append ks (record { frame = f; kept = true } ∷ []), append-nil) (omega arith)
-count-close ks f false = rw (discarded-append ks (record { frame = f; kept = false } ∷ [])) (length-append (discardedIn ks) (f ∷ []))
-
-module _ (c : Limits) (l : Ledger) (h : l .taken ≤ length (keptIn (l .closed))) where
-  pub waiting-kept : hasRoom c l ≡ true → waitingIn (close c l) ≡ waitingIn l ++ (l .filling ∷ [])
-  unfolding waitingIn close
-  waiting-kept e = rw e (kept-close (l .closed) (l .filling) true (l .taken) h)
-
-  pub waiting-lost : hasRoom c l ≡ false → waitingIn (close c l) ≡ waitingIn l
-  unfolding waitingIn close
-  waiting-lost e = rw e (kept-close (l .closed) (l .filling) false (l .taken) h ∙ append-nil (drop (l .taken) (keptIn (l .closed))))
-
-  pub close-meter : closedMeter (meterOf c l) ≡ meterOf c (close c l)
-  unfolding closedMeter meterOf counted close filledIn hasRoom waitingIn
-  close-meter = go (hasRoom c l) refl
-    where
-      go : (b : Bool) → hasRoom c l ≡ b → closedMeter (meterOf c l) ≡ meterOf c (close c l)
-      go true e =
-          let d = count-close (l .closed) (l .filling) true in
-          let w = waits-close (l .closed) (l .filling) true (l .taken) h in
-          rw e (meter-path refl refl refl refl refl refl (sym (or-false (l .lost))) (omega arith) refl (sym w))
-      go false e =
-          let d = count-close (l .closed) (l .filling) false in
-          let w = waits-close (l .closed) (l .filling) false (l .taken) h in
-          rw e (meter-path refl refl refl refl refl refl (sym (or-true (l .lost))) (omega arith) refl (omega arith))
-
-total-more : (xs : List Line) (x : Line) → total (xs ++ (x ∷ [])) ≡ total xs + sizeIn x
-total-more [] x = omega arith
-total-more (y ∷ xs) x = omega (arith, total-more xs x)
+-- rule 3
+pub close-meter : (c : Limits) (l : Ledger) → SoundL c l → closedMeter (meterOf c l) ≡ meterOf c (close c l)
+unfolding closedMeter meterOf counted close filledIn hasRoom
+close-meter c l s = go (hasRoom c l) refl
+  where
+    go : (b : Bool) → hasRoom c l ≡ b → closedMeter (meterOf c l) ≡ meterOf c (close c l)
+    go true e =
+        let d = rw e at (close-discards c l) in
+        let w = rw e at (close-waits c l s) in
+        rw e (meter-path refl refl refl refl refl refl (sym (or-false (l .lost))) (omega arith) refl (omega arith))
+    go false e =
+        let d = rw e at (close-discards c l) in
+        let w = rw e at (close-waits c l s) in
+        rw e (meter-path refl refl refl refl refl refl (sym (or-true (l .lost))) (omega arith) refl (omega arith))
 
 pub filled-more : (xs : List Line) (x : Line) → filledIn (xs ++ (x ∷ [])) ≡ 14 + total xs + sizeIn x
 filled-more xs x = filled-open (xs ++ (x ∷ [])) (snoc-filled xs x) ∙ omega (arith, total-more xs x)
 
 -- the first item takes what it would take anywhere
-one-filled : (t : Time) (l : Ledger) (ev : Event) {n : ℕ} → n ≡ sizeIn (lineFor l ev) → 14 + n ≡ filledIn (lineFor (begun t l) ev ∷ [])
+one-filled : (t : Time) (l : Ledger) (ev : Event) {n : ℕ} → n ≡ sizeIn (lineFor l ev) → 14 + n ≡ filledIn (lineFor (opened t l) ev ∷ [])
 unfolding filledIn lineFor sizeIn itemIn stateIn
 one-filled t l ev e = omega arith
 
--- rule 1: an item in a frame just begun, and in one that stays open
+-- rule 1: an item in a frame just opened, and in one that stays open
 pub begin-meter : (c : Limits) (l : Ledger) (ev : Event) → ev .state < 128 → l .filling .lines ≡ []
-    → filledMeter (meterOf c l) (ev .time) (offerIn ev) (length (ev .payload)) ≡ meterOf c (enter ev (begun (ev .time) l))
+    → filledMeter (meterOf c l) (ev .time) (offerIn ev) (length (ev .payload)) ≡ meterOf c (enter ev (opened (ev .time) l))
 unfolding filledMeter itemSize placedMeter meterOf enter waitingIn
 begin-meter c l ev h e =
     let z : eqb (filledIn (l .filling .lines)) 0 ≡ true = filled-zero (l .filling .lines) ∙ rw e in
@@ -190,3 +163,13 @@ enter-meter c l ev h e =
     let n = size-same l ev (offsetFor (meterOf c l) (ev .time)) h in
     let f = filled-open (l .filling .lines) e in
     rw z (meter-path refl refl refl (sym (filled-more (l .filling .lines) (lineFor l ev) ∙ omega arith)) refl refl refl refl refl refl)
+
+-- rule 7
+pub take-meter : (c : Limits) (l : Ledger) (fs : List Frame) → waitingIn l ≡ fs → takenMeter (meterOf c l) ≡ meterOf c (taken l)
+unfolding takenMeter meterOf
+take-meter c l [] e = rw (taken-none l e, e)
+take-meter c l (f ∷ fs) e =
+    let n : length (waitingIn l) ≡ suc (length fs) = ap length e in
+    let z : eqb (length (waitingIn l)) 0 ≡ false = ne-eqb (length (waitingIn l)) 0 (λ q. let y : ⊥ = omega arith in y) in
+    let d : length (waitingIn (tookOne l)) ≡ length fs = ap length (took-waiting l f fs e) in
+    rw (taken-one l f fs e, z) (meter-path refl refl refl refl refl refl refl refl (omega arith) (omega arith))
