@@ -1,5 +1,5 @@
 -- The ledger run by itself on P1 to P9 of 01: from the calls and the answers of the table, with no engine, its taken frames laid
--- out are the bytes of the table.
+-- out are the bytes of the table, and it has discarded as many as 01 says.
 use Prim.Native.Nat.{ℕ}
 use mathlib.Core.Path.{_≡_, refl}
 use mathlib.Core.List.{List, [], _∷_, map}
@@ -9,8 +9,8 @@ use Rattle.codec.specs.Layout.{layout}
 use Rattle.mirror.specs.Call.{Call, Said}
 use Rattle.mirror.specs.Call as Call
 use Rattle.mirror.specs.Vectors.{Row, p1, p2, p3, p4, p5, p6, p7, p8, p9}
-use Rattle.history.specs.Account.{Account, freshAccount, kindNamed, accountsFor, accountAt, startedAccount, stoppedAccount, updatedAccount, canState, differs, showsBy, reportEvent, reportedAccount, callsFor, stateEvent, tickedAccount, changed}
-use Rattle.history.specs.Ledger.{Limits, emptyLedger, stateIn, itemIn, sizeIn, takenIn, waitingIn, offsetIn, lineFor, closesBefore, overdue, hasRoom, close, begin, enter, mirrored, passed, taken}
+use Rattle.history.specs.Account.{freshAccount, kindNamed, accountsFor, accountAt, startedAccount, stoppedAccount, updatedAccount, canState, differs, showsBy, reportEvent, reportedAccount, callsFor, stateEvent, tickedAccount, changed}
+use Rattle.history.specs.Ledger.{Ledger, emptyLedger, discardCount, stateIn, itemIn, sizeIn, takenIn, waitingIn, offsetIn, lineFor, closesBefore, overdue, hasRoom, close, begin, enter, mirrored, passed, taken}
 use Rattle.history.specs.Deed.{Deed, done, opsOf, accountsBy, ledgerOf}
 use Rattle.history.specs.History.{framesTaken}
 use Rattle.history.proofs.Machine.{laid}
@@ -31,6 +31,7 @@ pub record Case : Type 0 where
   pub deadline : ℕ
   pub pairs : List ℕ
   pub row : Row
+  pub discarded : ℕ
 
 abbrev pub Begins : Case → Type 0
 Begins t = t .row .calls ≡ Call.setup (t .size) (t .room) (t .deadline) (t .pairs) ∷ later (t .row .calls)
@@ -38,25 +39,26 @@ Begins t = t .row .calls ≡ Call.setup (t .size) (t .room) (t .deadline) (t .pa
 abbrev pub deeds : Case → List Deed
 deeds t = told (later (t .row .calls)) (later (t .row .said))
 
+abbrev pub ledger : Case → Ledger
+ledger t = ledgerOf (record { size = t .size; room = t .room; deadline = t .deadline }) (accountsFor (t .pairs)) (deeds t)
+
 abbrev pub Agrees : Case → Type 0
-Agrees t =
-    map laid (takenIn (ledgerOf (record { size = t .size; room = t .room; deadline = t .deadline }) (accountsFor (t .pairs)) (deeds t)))
-    ≡ framesTaken (deeds t)
+Agrees t = (map laid (takenIn (ledger t)) ≡ framesTaken (deeds t)) × (discardCount (ledger t) ≡ t .discarded)
 
 abbrev pub AllAgree : List Case → Type 0
 AllAgree [] = Unit
 AllAgree (t ∷ ts) = (Begins t × Agrees t) × AllAgree ts
 
-abbrev pub on : ℕ → ℕ → List ℕ → Row → Case
-on size room pairs row = record { size = size; room = room; deadline = 1; pairs = pairs; row = row }
+abbrev pub on : ℕ → ℕ → List ℕ → Row → ℕ → Case
+on size room pairs row discarded = record { size = size; room = room; deadline = 1; pairs = pairs; row = row; discarded = discarded }
 
 abbrev pub cases : List Case
 cases =
-    on 64 1 (1 ∷ 5 ∷ []) p1 ∷ on 64 1 (1 ∷ 5 ∷ []) p2 ∷ on 64 2 (1 ∷ 5 ∷ []) p3 ∷ on 64 1 (1 ∷ 5 ∷ []) p4 ∷ on 64 2 (1 ∷ 5 ∷ []) p5
-    ∷ on 32 1 (1 ∷ 5 ∷ []) p6 ∷ on 64 1 (3 ∷ 7 ∷ []) p7 ∷ on 64 1 (2 ∷ 1 ∷ 1 ∷ 5 ∷ []) p8 ∷ on 64 1 (1 ∷ 5 ∷ []) p9 ∷ []
+    on 64 1 (1 ∷ 5 ∷ []) p1 0 ∷ on 64 1 (1 ∷ 5 ∷ []) p2 0 ∷ on 64 2 (1 ∷ 5 ∷ []) p3 0 ∷ on 64 1 (1 ∷ 5 ∷ []) p4 0 ∷ on 64 2 (1 ∷ 5 ∷ []) p5 0
+    ∷ on 32 1 (1 ∷ 5 ∷ []) p6 0 ∷ on 64 1 (3 ∷ 7 ∷ []) p7 0 ∷ on 64 1 (2 ∷ 1 ∷ 1 ∷ 5 ∷ []) p8 0 ∷ on 64 1 (1 ∷ 5 ∷ []) p9 1 ∷ []
 
 pub examples : AllAgree cases
 unfolding freshAccount kindNamed accountAt startedAccount stoppedAccount updatedAccount canState differs showsBy reportEvent reportedAccount callsFor stateEvent
-    tickedAccount changed emptyLedger stateIn itemIn sizeIn takenIn waitingIn offsetIn lineFor closesBefore overdue hasRoom close begin enter mirrored passed taken
+    tickedAccount changed emptyLedger discardCount stateIn itemIn sizeIn takenIn waitingIn offsetIn lineFor closesBefore overdue hasRoom close begin enter mirrored passed taken
     done opsOf accountsBy ledgerOf laid layout headerBytes encode
-examples = ((refl, refl), ((refl, refl), ((refl, refl), ((refl, refl), ((refl, refl), ((refl, refl), ((refl, refl), ((refl, refl), ((refl, refl), tt)))))))))
+examples = ((refl, (refl, refl)), ((refl, (refl, refl)), ((refl, (refl, refl)), ((refl, (refl, refl)), ((refl, (refl, refl)), ((refl, (refl, refl)), ((refl, (refl, refl)), ((refl, (refl, refl)), ((refl, (refl, refl)), tt)))))))))

@@ -22,6 +22,8 @@ pub mod BookLaws
 pub mod SetupLaws
 pub mod TickLaws
 pub mod EngineLaws
+pub mod RunLaws
 pub mod Theorem
 pub mod Lossless
 pub mod Examples
+pub mod Drain

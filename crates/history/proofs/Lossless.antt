@@ -1,6 +1,6 @@
 -- Two readings of `History`: all frames in one row; and where nothing was discarded and nothing waits or is being filled, the frames
 -- taken hold exactly the accepted reports and the state items called for.
-use Prim.Native.Nat.{ℕ, _+_, min}
+use Prim.Native.Nat.{ℕ, _+_}
 use mathlib.Core.Path.{_≡_, refl, sym, _∙_, ap}
 use mathlib.Core.Bool.{Bool, true, false, true≢false, false≢true}
 use mathlib.Core.List.{List, [], _∷_, _++_, map, append-nil}
@@ -15,7 +15,7 @@ use Rattle.mirror.specs.Engine.{discardsOf}
 use Rattle.mirror.specs.Call.{Call, runOf}
 use Rattle.mirror.specs.declared.engine.Engine.{Engine}
 use Rattle.history.specs.Account.{Account}
-use Rattle.history.specs.Ledger.{Limits, Line, Frame, Closed, Ledger, stateIn, itemIn, isEmpty, keptIn, discardedIn, takenIn, waitingIn, fillingIn, linesClosed, linesIn}
+use Rattle.history.specs.Ledger.{Limits, Line, Frame, Closed, Ledger, stateIn, itemIn, isEmpty, keptIn, discardedIn, discardCount, takenIn, waitingIn, fillingIn, linesClosed, linesIn}
 use Rattle.history.specs.Deed.{deedsOf, eventsOn, ledgerOf}
 use Rattle.history.specs.History.{All, Both, Shows, Reads, lostBit, Marked, Marks, framesTaken, framesWaiting, framesFilling, History, yieldsIn, ShowsEvent}
 use Rattle.history.proofs.ListLaws.{empty-is, length-none, all-append, both-append, both-none}
@@ -102,8 +102,9 @@ module _ (c : Limits) (book : List Account) (e : Engine) (calls : List Call) (h 
 
   module _ (none : discardsOf (runOf e calls) .count ≡ 0) (drained : framesWaiting (runOf e calls) ≡ []) (flushed : framesFilling (runOf e calls) ≡ []) where
     none-discarded : discardedIn (end .closed) ≡ []
+    unfolding discardCount
     none-discarded =
-        let m : min (length (discardedIn (end .closed))) 4294967295 ≡ 0 = sym (h .discards) ∙ none in
+        let m : discardCount end ≡ 0 = sym (h .discards) ∙ none in
         length-none (discardedIn (end .closed)) (omega arith)
 
     none-filling : end .filling .lines ≡ []

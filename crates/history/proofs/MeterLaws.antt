@@ -1,5 +1,5 @@
 -- The framer's numbers are those of the ledger, the rules' tests give the same answers, and each step changes both alike.
-use Prim.Native.Nat.{ℕ, suc, _+_, _-_, _/_, _%_, _≤_, _<_, min}
+use Prim.Native.Nat.{ℕ, suc, _+_, _-_, _/_, _%_, _≤_, _<_}
 use mathlib.Core.Path.{_≡_, refl, sym, _∙_, ap}
 use mathlib.Core.Bool.{Bool, true, false, not, _&&_, _||_}
 use mathlib.Core.List.{List, [], _∷_, _++_}
@@ -18,7 +18,7 @@ use Rattle.framer.specs.Meter.{isWithin, ticksIn, stateShown, itemOf, offsetFor
 use Rattle.framer.specs.Framer.{itemSize, filledMeter}
 use Rattle.framer.specs.declared.meter.Meter.{Meter}
 use Rattle.history.specs.Account.{Event}
-use Rattle.history.specs.Ledger.{Limits, Line, Frame, Ledger, stateIn, itemIn, sizeIn, total, isEmpty, discardedIn, waitingIn, offsetIn, lineFor, closesBefore, hasRoom, overdue, close, enter, taken}
+use Rattle.history.specs.Ledger.{Limits, Line, Frame, Ledger, stateIn, itemIn, sizeIn, total, isEmpty, discardCount, waitingIn, offsetIn, lineFor, closesBefore, hasRoom, overdue, close, enter, taken}
 use Rattle.history.proofs.Machine.{offerIn}
 use Rattle.history.proofs.BitLaws.{raise-lost}
 use Rattle.history.proofs.TestLaws.{not-leb}
@@ -41,7 +41,7 @@ meterOf c l = record {
   time = l .filling .time;
   sequence = l .next;
   lost = l .lost;
-  discards = min (length (discardedIn (l .closed))) 4294967295;
+  discards = discardCount l;
   first = l .taken % 8;
   waiting = length (waitingIn l);
 }
@@ -125,7 +125,7 @@ ticks-same h t a b = rw (le-ltb t h a, le-leb ((t - h) / 10000) 65535 b)
 
 -- rule 3
 pub close-meter : (c : Limits) (l : Ledger) → SoundL c l → closedMeter (meterOf c l) ≡ meterOf c (close c l)
-unfolding closedMeter meterOf counted close filledIn hasRoom
+unfolding closedMeter meterOf counted close filledIn hasRoom discardCount
 close-meter c l s = go (hasRoom c l) refl
   where
     go : (b : Bool) → hasRoom c l ≡ b → closedMeter (meterOf c l) ≡ meterOf c (close c l)
@@ -149,7 +149,7 @@ one-filled t l ev e = omega arith
 -- rule 1: an item in a frame just opened, and in one that stays open
 pub begin-meter : (c : Limits) (l : Ledger) (ev : Event) → ev .state < 128 → l .filling .lines ≡ []
     → filledMeter (meterOf c l) (ev .time) (offerIn ev) (length (ev .payload)) ≡ meterOf c (enter ev (opened (ev .time) l))
-unfolding filledMeter itemSize placedMeter meterOf enter waitingIn
+unfolding filledMeter itemSize placedMeter meterOf enter waitingIn discardCount
 begin-meter c l ev h e =
     let z : eqb (filledIn (l .filling .lines)) 0 ≡ true = filled-zero (l .filling .lines) ∙ rw e in
     let n = size-same l ev (offsetFor (meterOf c l) (ev .time)) h in
@@ -157,7 +157,7 @@ begin-meter c l ev h e =
 
 pub enter-meter : (c : Limits) (l : Ledger) (ev : Event) → ev .state < 128 → isEmpty (l .filling .lines) ≡ false
     → filledMeter (meterOf c l) (ev .time) (offerIn ev) (length (ev .payload)) ≡ meterOf c (enter ev l)
-unfolding filledMeter itemSize placedMeter meterOf enter waitingIn
+unfolding filledMeter itemSize placedMeter meterOf enter waitingIn discardCount
 enter-meter c l ev h e =
     let z : eqb (filledIn (l .filling .lines)) 0 ≡ false = filled-zero (l .filling .lines) ∙ e in
     let n = size-same l ev (offsetFor (meterOf c l) (ev .time)) h in
@@ -166,7 +166,7 @@ enter-meter c l ev h e =
 
 -- rule 7
 pub take-meter : (c : Limits) (l : Ledger) (fs : List Frame) → waitingIn l ≡ fs → takenMeter (meterOf c l) ≡ meterOf c (taken l)
-unfolding takenMeter meterOf
+unfolding takenMeter meterOf discardCount
 take-meter c l [] e = rw (taken-none l e, e)
 take-meter c l (f ∷ fs) e =
     let n : length (waitingIn l) ≡ suc (length fs) = ap length e in

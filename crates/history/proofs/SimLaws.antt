@@ -19,7 +19,7 @@ use Rattle.framer.specs.declared.framer.Framer.{Framer}
 use Rattle.framer.proofs.FramerLaws.{sounds, add-is}
 use Rattle.framer.proofs.KeptLaws.{kept-empty, kept-add, kept-pass, kept-take}
 use Rattle.history.specs.Account.{Event}
-use Rattle.history.specs.Ledger.{Limits, Frame, Ledger, Op, total, isEmpty, waitingIn, hasRoom, closesBefore, overdue, close, begin, enter, mirrored, taken, emptyLedger, stepL, runL}
+use Rattle.history.specs.Ledger.{Limits, Frame, Ledger, Op, total, isEmpty, waitingIn, hasRoom, closesBefore, overdue, close, begin, enter, mirrored, taken, emptyLedger, discardCount, stepL, runL}
 use Rattle.history.specs.Ledger as Rules
 use Rattle.history.specs.History.{slotsFrom, All}
 use Rattle.history.proofs.Machine.{offerIn, laid, Fit, FitOp, stepW, runW}
@@ -206,7 +206,7 @@ run-tied c w l (op ∷ ops) t f = run-tied c (stepW w op) (stepL c l op) ops (st
 -- after setup
 pub empty-tied : (c : Limits) → limitsOk (c .size) (c .room) (c .deadline) ≡ true
     → Tied c (emptyFramer (c .size) (c .room) (record { 0 = c .deadline })) emptyLedger
-unfolding emptyFramer emptyMeter emptyQueue emptyLedger meterOf imageIn waitingIn filledIn
+unfolding emptyFramer emptyMeter emptyQueue emptyLedger meterOf imageIn waitingIn filledIn discardCount
 empty-tied c h = record {
   tie = record { meter = refl; bytes = refl; slots = refl; store = record { bytes = length-replicate {A = ℕ} 8192 0; lengths = length-replicate {A = ℕ} 8 0 } };
   sound = kept-empty (c .size) (c .room) (record { 0 = c .deadline }) h;

@@ -1,5 +1,5 @@
 -- What any sequence of calls leaves behind (demand 3), read through the reader's definitions.
-use Prim.Native.Nat.{ℕ, zero, suc, _+_, _*_, _%_, _^_, _≤_, _<_, min}
+use Prim.Native.Nat.{ℕ, zero, suc, _+_, _*_, _%_, _^_, _≤_, _<_}
 use mathlib.Core.Path.{_≡_}
 use mathlib.Core.Logic.{_⊎_}
 use mathlib.Core.Bool.{Bool, true, false, not}
@@ -22,7 +22,7 @@ use Rattle.mirror.specs.Call.{Call, Said, runOf}
 use Rattle.mirror.specs.Call as Call
 use Rattle.mirror.specs.declared.engine.Engine.{Engine}
 use Rattle.history.specs.Account.{Account, Event}
-use Rattle.history.specs.Ledger.{Limits, Line, Frame, Closed, Ledger, emptyLedger, Op, stepL, runL, itemIn, entryIn, sizeIn, total, discardedIn, takenIn, waitingIn, offsetIn, lineFor, linesIn, fillingIn}
+use Rattle.history.specs.Ledger.{Limits, Line, Frame, Closed, Ledger, emptyLedger, Op, stepL, runL, itemIn, entryIn, sizeIn, total, discardCount, takenIn, waitingIn, offsetIn, lineFor, linesIn, fillingIn}
 use Rattle.history.specs.Ledger as Op
 use Rattle.history.specs.Deed.{Deed, deedsOf, done, eventsOn, opsOn, ledgerOf}
 
@@ -158,7 +158,7 @@ pub record History (c : Limits) (book : List Account) (e : Engine) (calls : List
   -- c: at each moment a frame closes exactly when rule 2 or 6 says, and is discarded exactly when Q wait
   pub closes : (before after : List Op) (op : Op) → opsOn book (deedsOf e calls) ≡ before ++ (op ∷ after)
       → Closes c (runL c emptyLedger before) op (stepL c (runL c emptyLedger before) op)
-  pub discards : discardsOf (runOf e calls) .count ≡ min (length (discardedIn (ledgerOf c book (deedsOf e calls) .closed))) 4294967295
+  pub discards : discardsOf (runOf e calls) .count ≡ discardCount (ledgerOf c book (deedsOf e calls))
   pub filled : All (λ (k : Closed). k .frame .lines ≡ [] → ⊥) (ledgerOf c book (deedsOf e calls) .closed)
   -- e: the lost bit stands exactly on the first item made after a discard
   pub marks : Marks false (ledgerOf c book (deedsOf e calls) .closed) (ledgerOf c book (deedsOf e calls) .filling .lines)

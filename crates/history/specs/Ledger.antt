@@ -1,5 +1,5 @@
 -- The ledger of frames: it knows no bytes and never forgets (01, rules 1 to 4, 6 and 7).
-use Prim.Native.Nat.{ℕ, _+_, _-_, _*_, _/_, _%_}
+use Prim.Native.Nat.{ℕ, _+_, _-_, _*_, _/_, _%_, min}
 use mathlib.Core.Bool.{Bool, true, false, not, _&&_, _||_}
 use mathlib.Core.List.{List, [], _∷_, _++_}
 use lib.ListN.{length, drop}
@@ -94,6 +94,10 @@ keptIn (k ∷ ks) = pick (k .kept) (k .frame ∷ []) [] ++ keptIn ks
 abbrev pub discardedIn : List Closed → List Frame
 discardedIn [] = []
 discardedIn (k ∷ ks) = pick (k .kept) [] (k .frame ∷ []) ++ discardedIn ks
+
+-- the discard count, stopping at 4,294,967,295 (rule 3)
+unfoldable pub discardCount : Ledger → ℕ
+discardCount l = min (length (discardedIn (l .closed))) 4294967295
 
 -- kept and taken, the oldest first; kept and not yet taken
 unfoldable pub takenIn : Ledger → List Frame
