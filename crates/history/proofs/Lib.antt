@@ -27,3 +27,5 @@ pub mod Theorem
 pub mod Lossless
 pub mod Examples
 pub mod Drain
+pub mod ResetLaws
+pub mod Again

@@ -2,3 +2,4 @@ pub mod Account
 pub mod Ledger
 pub mod Deed
 pub mod History
+pub mod Again

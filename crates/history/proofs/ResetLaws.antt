@@ -1,0 +1,115 @@
+-- What offline and switch leave: the same sources, as setup made them, and an empty framer. No other call changes a source's kind
+-- or id.
+use Prim.Native.Nat.{ℕ, zero, suc}
+use mathlib.Core.Path.{_≡_, refl, _∙_, ap}
+use mathlib.Core.Bool.{true}
+use mathlib.Core.List.{List, [], _∷_, map}
+use lib.ListN.{take, length-map}
+use lib.Seq.{map-set-same}
+use Rattle.codec.specs.declared.ident.Kind.the-variants as Kind
+use Rattle.framer.specs.Meter.{limitsOk}
+use Rattle.framer.specs.Framer.{emptyFramer}
+use Rattle.bus.specs.Source.{resetSource, freshSource}
+use Rattle.bus.specs.declared.source.Source.{Source}
+use Rattle.mirror.specs.Setup.{resetOf}
+use Rattle.mirror.specs.Call.{Call}
+use Rattle.mirror.specs.Call as Call
+use Rattle.mirror.specs.declared.engine.Engine.{Engine}
+use Rattle.mirror.proofs.MirrorLaws.{few}
+use Rattle.mirror.proofs.Kept.{sound-by}
+use Rattle.framer.proofs.KeptLaws.{kept-empty}
+use Rattle.history.specs.Account.{Account, freshAccount, kindNamed, accountsFor, accountAt, changed, startedAccount, stoppedAccount, updatedAccount, reportedAccount, tickedAccount, accountsOf, Bound, none, errors, conflict}
+use Rattle.history.specs.Ledger.{Limits}
+use Rattle.history.specs.History.{All}
+use Rattle.history.proofs.SourceLaws.{accountOf, HealthyS, fresh-healthy}
+use Rattle.history.proofs.BookLaws.{bookOf, Steady}
+use Rattle.history.proofs.SimLaws.{empty-tied}
+use Rattle.history.proofs.Theorem.{Begun}
+
+-- an account as setup made it
+unfoldable pub renewed : Account → Account
+renewed a = freshAccount (a .kind) (a .network)
+
+-- no call changes the kind or the id of a source
+module _ (book : List Account) where
+  one-stays : (source : ℕ) (f : Account → Account) → ((a : Account) → renewed (f a) ≡ renewed a) → map renewed (changed book source f) ≡ map renewed book
+  unfolding changed accountAt
+  one-stays source f e = map-set-same renewed book source _ (freshAccount Kind.Can 0) (e _)
+
+  report-stays : (source : ℕ) (b : Bound) → map renewed (changed book source (reportedAccount b)) ≡ map renewed book
+  unfolding renewed reportedAccount
+  report-stays source b = one-stays source (reportedAccount b) (λ a. refl)
+
+  update-stays : (source byte : ℕ) → map renewed (changed book source (updatedAccount byte)) ≡ map renewed book
+  unfolding renewed updatedAccount
+  update-stays source byte = one-stays source (updatedAccount byte) (λ a. refl)
+
+tick-stays : (book : List Account) → map renewed (map tickedAccount book) ≡ map renewed book
+unfolding renewed tickedAccount
+tick-stays [] = refl
+tick-stays (a ∷ book) = ap (λ (x : List Account). renewed a ∷ x) (tick-stays book)
+
+pub book-stays : (book : List Account) (x : Call) → map renewed (accountsOf book x) ≡ map renewed book
+unfolding renewed startedAccount stoppedAccount
+book-stays book (Call.start source) = one-stays book source startedAccount (λ a. refl)
+book-stays book (Call.stop source) = one-stays book source stoppedAccount (λ a. refl)
+book-stays book (Call.can source t key payload) = report-stays book source none
+book-stays book (Call.lin source t pid bits payload) = report-stays book source (errors bits)
+book-stays book (Call.flexray source t channels slot cycle payload) = report-stays book source none
+book-stays book (Call.conflict source t channels slot cycle) = report-stays book source conflict
+book-stays book (Call.can-state source online passive busOff counter) = update-stays book source _
+book-stays book (Call.lin-state source online) = update-stays book source _
+book-stays book (Call.flexray-state source online bits) = update-stays book source _
+book-stays book (Call.tick t) = tick-stays book
+book-stays book (Call.setup size room deadline pairs) = refl
+book-stays book (Call.switch size room deadline) = refl
+book-stays book Call.offline = refl
+book-stays book (Call.can-mask source mask code) = refl
+book-stays book (Call.can-range source lower upper) = refl
+book-stays book (Call.lin-mask source mask code) = refl
+book-stays book (Call.lin-range source lower upper) = refl
+book-stays book (Call.slots source low high lowCycle highCycle repetition) = refl
+book-stays book (Call.remove source number) = refl
+book-stays book (Call.take out) = refl
+book-stays book Call.discards = refl
+
+pub renewed-fresh : (pairs : List ℕ) → map renewed (accountsFor pairs) ≡ accountsFor pairs
+unfolding renewed freshAccount
+renewed-fresh [] = refl
+renewed-fresh (kind ∷ []) = refl
+renewed-fresh (kind ∷ (id ∷ rest)) = ap (λ (x : List Account). freshAccount (kindNamed kind) id ∷ x) (renewed-fresh rest)
+
+-- the engine that they leave
+reset-accounts : (xs : List Source) (n : ℕ) → map accountOf (take n (map resetSource xs)) ≡ map renewed (map accountOf (take n xs))
+unfolding resetSource renewed accountOf freshSource freshAccount
+reset-accounts xs zero = refl
+reset-accounts [] (suc n) = refl
+reset-accounts (x ∷ xs) (suc n) = ap (λ (r : List Account). renewed (accountOf x) ∷ r) (reset-accounts xs n)
+
+reset-healthy : (xs : List Source) → All HealthyS xs → All HealthyS (map resetSource xs)
+unfolding resetSource
+reset-healthy [] p = tt
+reset-healthy (x ∷ xs) p = (fresh-healthy (x .kind) (x .network) (p .0 .network), reset-healthy xs (p .1))
+
+module _ (c : Limits) (e : Engine) (s : Steady e) (h : limitsOk (c .size) (c .room) (c .deadline) ≡ true) where
+  abbrev after : Engine
+  after = resetOf e (c .size) (c .room) (record { 0 = c .deadline })
+
+  after-steady : Steady after
+  unfolding resetOf emptyFramer
+  after-steady = record {
+    sound = sound-by (e .count) (map resetSource (e .sources)) (emptyFramer (c .size) (c .room) (record { 0 = c .deadline })) (few e (s .sound))
+        (kept-empty (c .size) (c .room) (record { 0 = c .deadline }) h);
+    some = s .some;
+    eight = length-map (e .sources) resetSource ∙ s .eight;
+    healthy = reset-healthy (e .sources) (s .healthy);
+  }
+
+  pub after-begun : Begun c (map renewed (bookOf e)) after
+  unfolding resetOf bookOf
+  after-begun = record { steady = after-steady; tied = empty-tied c h; accounts = reset-accounts (e .sources) (e .count) }
+
+pub renewed-twice : (book : List Account) → map renewed (map renewed book) ≡ map renewed book
+unfolding renewed freshAccount
+renewed-twice [] = refl
+renewed-twice (a ∷ book) = ap (λ (x : List Account). renewed a ∷ x) (renewed-twice book)
