@@ -19,10 +19,11 @@ use Rattle.mirror.specs.Call.{Call, stepOf, runOf}
 use Rattle.mirror.specs.Call as Call
 use Rattle.mirror.specs.declared.engine.Engine.{Engine}
 use Rattle.mirror.proofs.Refused.{refused-keeps}
+use Rattle.history.specs.Meaning.{Meaning, starts, stops, updates, reports, ticks, takes, switches, drops, nothing, meaning}
 use Rattle.history.specs.Account.{Account, accountsFor}
 use Rattle.history.specs.Ledger.{Limits, Ledger, Op, emptyLedger, runL}
 use Rattle.history.specs.Deed.{deedsOf, done, opsOn}
-use Rattle.history.specs.History.{All, Plain, History}
+use Rattle.history.specs.History.{All, Allowed, Plain, History}
 use Rattle.history.specs.Again.{Resets, Typed, limitsOf, limitsOn}
 use Rattle.history.proofs.TestLaws.{wrong}
 use Rattle.history.proofs.MeterLaws.{meterOf}
@@ -72,8 +73,8 @@ offline-begun c book e a =
     = rw (s .sound, n) (ap (λ (m : Meter). resetOf e (m .size) (m .room) (m .deadline)) (a .tied .tie .meter)) in
     rw o (after-begun c e s h)
 
-resets-begun : (c : Limits) (book : List Account) (e : Engine) (x : Call) → Alive c book e → Resets x → stepOf e x .said .answer ≡ 0
-    → Begun (limitsOf c x) (map renewed (bookOf e)) (stepOf e x .engine)
+resets-begun : (c : Limits) (book : List Account) (e : Engine) (x : Call) → Alive c book e → Resets (meaning x) → stepOf e x .said .answer ≡ 0
+    → Begun (limitsOf c (meaning x)) (map renewed (bookOf e)) (stepOf e x .engine)
 resets-begun c book e (Call.switch size room deadline) a r z = switch-begun e size room deadline (a .steady) z
 resets-begun c book e Call.offline a r z = offline-begun c book e a
 resets-begun c book e (Call.setup size room deadline pairs) a r z = absurd r
@@ -97,31 +98,19 @@ resets-begun c book e (Call.take out) a r z = absurd r
 resets-begun c book e Call.discards a r z = absurd r
 
 -- a call that resets nothing leaves the limits
-plain-limits : (c : Limits) (x : Call) → Plain x → limitsOf c x ≡ c
-plain-limits c (Call.setup size room deadline pairs) p = refl
-plain-limits c (Call.start source) p = refl
-plain-limits c (Call.stop source) p = refl
-plain-limits c (Call.can source t key payload) p = refl
-plain-limits c (Call.lin source t pid bits payload) p = refl
-plain-limits c (Call.flexray source t channels slot cycle payload) p = refl
-plain-limits c (Call.conflict source t channels slot cycle) p = refl
-plain-limits c (Call.can-state source online passive busOff counter) p = refl
-plain-limits c (Call.lin-state source online) p = refl
-plain-limits c (Call.flexray-state source online bits) p = refl
-plain-limits c (Call.can-mask source mask code) p = refl
-plain-limits c (Call.can-range source lower upper) p = refl
-plain-limits c (Call.lin-mask source mask code) p = refl
-plain-limits c (Call.lin-range source lower upper) p = refl
-plain-limits c (Call.slots source low high lowCycle highCycle repetition) p = refl
-plain-limits c (Call.remove source number) p = refl
-plain-limits c (Call.tick t) p = refl
-plain-limits c (Call.take out) p = refl
-plain-limits c Call.discards p = refl
-plain-limits c (Call.switch size room deadline) p = absurd p
-plain-limits c Call.offline p = absurd p
+plain-limits : (c : Limits) (m : Meaning) → Allowed m → limitsOf c m ≡ c
+plain-limits c (starts source) p = refl
+plain-limits c (stops source) p = refl
+plain-limits c (updates source byte) p = refl
+plain-limits c (reports source b t ident carries payload) p = refl
+plain-limits c (ticks t) p = refl
+plain-limits c takes p = refl
+plain-limits c (switches size room deadline) p = absurd p
+plain-limits c drops p = absurd p
+plain-limits c nothing p = refl
 
 abbrev limitsBy : Limits → Engine → Call → Limits
-limitsBy c e x = pick (done (record { call = x; said = stepOf e x .said })) (limitsOf c x) c
+limitsBy c e x = pick (done (record { call = x; said = stepOf e x .said })) (limitsOf c (meaning x)) c
 
 step-alive : (c : Limits) (book : List Account) (e : Engine) (x : Call) → Alive c book e → Typed x → Alive (limitsBy c e x) book (stepOf e x .engine)
 unfolding done
@@ -132,11 +121,11 @@ step-alive c book e x a p = go (eqb (stepOf e x .said .answer) 0) refl p
     go true q (inl p) =
         let r = ran c e (a .ledger) (x ∷ []) (a .steady) (p, tt) (a .tied) in
         let ops : List Op = opsOn (bookOf e) (deedsOf e (x ∷ [])) in
-        rw (q, plain-limits c x p) (record {
+        rw (q, plain-limits c (meaning x) p) (record {
           steady = r .steady;
           ledger = runL c (a .ledger) ops;
           tied = rw (r .framer) (run-tied c (e .framer) (a .ledger) ops (a .tied) (r .fit));
-          sources = ap (map renewed) (step-book e x (a .steady) p (eqb-true (stepOf e x .said .answer) 0 q)) ∙ book-stays (bookOf e) x ∙ a .sources;
+          sources = ap (map renewed) (step-book e x (a .steady) p (eqb-true (stepOf e x .said .answer) 0 q)) ∙ book-stays (bookOf e) (meaning x) ∙ a .sources;
         })
     go true q (inr r) =
         let b = resets-begun c book e x a r (eqb-true (stepOf e x .said .answer) 0 q) in
@@ -153,9 +142,9 @@ run-alive c book e (x ∷ xs) a p = run-alive (limitsBy c e x) book (stepOf e x 
 
 -- so demand 3 holds from each accepted offline or switch on, however many there were before
 pub again : (e : Engine) (c : Limits) (pairs : List ℕ) (before : List Call) (x : Call) (after : List Call)
-    → stepOf e (Call.setup (c .size) (c .room) (c .deadline) pairs) .said .answer ≡ 0 → All Typed before → Resets x
+    → stepOf e (Call.setup (c .size) (c .room) (c .deadline) pairs) .said .answer ≡ 0 → All Typed before → Resets (meaning x)
     → stepOf (runOf (stepOf e (Call.setup (c .size) (c .room) (c .deadline) pairs) .engine) before) x .said .answer ≡ 0 → All Plain after
-    → History (limitsOf (limitsOn c (deedsOf (stepOf e (Call.setup (c .size) (c .room) (c .deadline) pairs) .engine) before)) x) (accountsFor pairs)
+    → History (limitsOf (limitsOn c (deedsOf (stepOf e (Call.setup (c .size) (c .room) (c .deadline) pairs) .engine) before)) (meaning x)) (accountsFor pairs)
     (stepOf (runOf (stepOf e (Call.setup (c .size) (c .room) (c .deadline) pairs) .engine) before) x .engine) after
 again e c pairs before x after z p r y q =
     let b = setup-begun e (c .size) (c .room) (c .deadline) pairs z in
@@ -165,5 +154,5 @@ again e c pairs before x after z p r y q =
     let k : Alive d (accountsFor pairs) v
     = run-alive c (accountsFor pairs) u before (record { steady = b .steady; ledger = emptyLedger; tied = b .tied; sources = ap (map renewed) (b .accounts) ∙ renewed-fresh pairs }) p in
     let n = resets-begun d (accountsFor pairs) v x k r y in
-    history-from (limitsOf d x) (accountsFor pairs) (stepOf v x .engine) after
+    history-from (limitsOf d (meaning x)) (accountsFor pairs) (stepOf v x .engine) after
     (record { steady = n .steady; tied = n .tied; accounts = n .accounts ∙ k .sources }) q

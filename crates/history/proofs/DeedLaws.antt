@@ -3,8 +3,7 @@ use mathlib.Core.Path.{_≡_, refl, _∙_}
 use mathlib.Core.Bool.{Bool, true, false}
 use mathlib.Core.List.{List, [], _∷_, _++_, map, append-nil}
 use Rattle.codec.specs.Choice.{pick}
-use Rattle.mirror.specs.Call.{Call}
-use Rattle.mirror.specs.Call as Call
+use Rattle.history.specs.Meaning.{Meaning, starts, stops, updates, reports, ticks, takes, switches, drops, nothing, meaning}
 use Rattle.history.specs.Account.{Account, Event, eventsOf}
 use Rattle.history.specs.Ledger.{Op}
 use Rattle.history.specs.Ledger as Rules
@@ -21,40 +20,28 @@ events-only : (evs : List Event) → eventsIn (map Rules.event evs) ≡ evs
 events-only [] = refl
 events-only (ev ∷ evs) = rw (events-only evs)
 
-none-besides : (x : Call) → eventsIn (besides x) ≡ []
-none-besides (Call.tick t) = refl
-none-besides (Call.take out) = refl
-none-besides (Call.setup size room deadline pairs) = refl
-none-besides (Call.switch size room deadline) = refl
-none-besides Call.offline = refl
-none-besides (Call.start source) = refl
-none-besides (Call.stop source) = refl
-none-besides (Call.can source t key payload) = refl
-none-besides (Call.lin source t pid bits payload) = refl
-none-besides (Call.flexray source t channels slot cycle payload) = refl
-none-besides (Call.conflict source t channels slot cycle) = refl
-none-besides (Call.can-state source online passive busOff counter) = refl
-none-besides (Call.lin-state source online) = refl
-none-besides (Call.flexray-state source online bits) = refl
-none-besides (Call.can-mask source mask code) = refl
-none-besides (Call.can-range source lower upper) = refl
-none-besides (Call.lin-mask source mask code) = refl
-none-besides (Call.lin-range source lower upper) = refl
-none-besides (Call.slots source low high lowCycle highCycle repetition) = refl
-none-besides (Call.remove source number) = refl
-none-besides Call.discards = refl
+none-besides : (m : Meaning) → eventsIn (besides m) ≡ []
+none-besides (starts source) = refl
+none-besides (stops source) = refl
+none-besides (updates source byte) = refl
+none-besides (reports source b t ident carries payload) = refl
+none-besides (ticks t) = refl
+none-besides takes = refl
+none-besides (switches size room deadline) = refl
+none-besides drops = refl
+none-besides nothing = refl
 
-events-of : (book : List Account) (x : Call) → eventsIn (opsOf book x) ≡ eventsOf book x
+events-of : (book : List Account) (m : Meaning) → eventsIn (opsOf book m) ≡ eventsOf book m
 unfolding opsOf
-events-of book x =
-    eventsIn-append (map Rules.event (eventsOf book x)) (besides x) ∙ rw (events-only (eventsOf book x), none-besides x) (append-nil (eventsOf book x))
+events-of book m =
+    eventsIn-append (map Rules.event (eventsOf book m)) (besides m) ∙ rw (events-only (eventsOf book m), none-besides m) (append-nil (eventsOf book m))
 
-events-by : (b : Bool) (book : List Account) (x : Call) → eventsIn (pick b (opsOf book x) []) ≡ pick b (eventsOf book x) []
-events-by true book x = events-of book x
-events-by false book x = refl
+events-by : (b : Bool) (book : List Account) (m : Meaning) → eventsIn (pick b (opsOf book m) []) ≡ pick b (eventsOf book m) []
+events-by true book m = events-of book m
+events-by false book m = refl
 
 pub events-in : (book : List Account) (ds : List Deed) → eventsIn (opsOn book ds) ≡ eventsOn book ds
 events-in book [] = refl
 events-in book (d ∷ ds) =
-    eventsIn-append (pick (done d) (opsOf book (d .call)) []) (opsOn (accountsBy book d) ds)
-    ∙ rw (events-by (done d) book (d .call), events-in (accountsBy book d) ds)
+    eventsIn-append (pick (done d) (opsOf book (meaning (d .call))) []) (opsOn (accountsBy book d) ds)
+    ∙ rw (events-by (done d) book (meaning (d .call)), events-in (accountsBy book d) ds)

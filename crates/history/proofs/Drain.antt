@@ -14,6 +14,7 @@ use Rattle.mirror.specs.Take.{takenOf}
 use Rattle.mirror.specs.Call.{Call, stepOf, runOf}
 use Rattle.mirror.specs.Call as Call
 use Rattle.mirror.specs.declared.engine.Engine.{Engine}
+use Rattle.history.specs.Meaning.{takes}
 use Rattle.history.specs.Ledger.{Limits, Frame, Ledger, emptyLedger, waitingIn, taken, runL}
 use Rattle.history.specs.Ledger as Rules
 use Rattle.history.specs.Deed.{deedsOf, done, opsOf, opsOn}
@@ -65,7 +66,7 @@ takes-all c e l out (f ∷ fs) s t h q =
     let u : Engine = stepOf e (Call.take out) .engine in
     let k : Tied c (u .framer) (taken l) = rw (framer-after e out s z) (step-tied c (e .framer) l Rules.take t tt) in
     let w : waitingIn (taken l) ≡ fs = rw (taken-one l f fs q) (took-waiting l f fs q) in
-    let o : frameOut (Call.take out) (stepOf e (Call.take out) .said) ≡ laid f ∷ []
+    let o : frameOut takes (stepOf e (Call.take out) .said) ≡ laid f ∷ []
     = take-out c e l out t (s .sound) z ∙ ap (λ (x : List Frame). map laid (take 1 x)) q in
     let r = takes-all c u (taken l) out fs (step-steady e (Call.take out) s tt) k h w in
     rw (eq-eqb (stepOf e (Call.take out) .said .answer) 0 z)

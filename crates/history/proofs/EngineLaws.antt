@@ -35,7 +35,8 @@ use Rattle.mirror.specs.Call as Call
 use Rattle.mirror.specs.declared.engine.Engine.{Engine}
 use Rattle.mirror.proofs.Kept.{metered, kept}
 use Rattle.mirror.proofs.Refused.{refused-keeps}
-use Rattle.history.specs.Account.{Account, Bound, none, errors, conflict, accountAt, startedAccount, stoppedAccount, updatedAccount, reportEvent, reportedAccount, stateEvents, tickedAccount, changed, accountsOf}
+use Rattle.history.specs.Meaning.{meaning, Bound, none, errors, conflict}
+use Rattle.history.specs.Account.{Account, accountAt, startedAccount, stoppedAccount, updatedAccount, reportEvent, reportedAccount, stateEvents, tickedAccount, changed, accountsOf}
 use Rattle.history.specs.Ledger.{Limits, Op}
 use Rattle.history.specs.Ledger as Rules
 use Rattle.history.specs.Deed.{opsOf}
@@ -43,7 +44,7 @@ use Rattle.history.specs.History.{Plain, All}
 use Rattle.history.proofs.Machine.{runW, FitOp}
 use Rattle.history.proofs.TestLaws.{wrong}
 use Rattle.history.proofs.ListLaws.{all-append, all-set}
-use Rattle.history.proofs.OutputLaws.{takes}
+use Rattle.history.proofs.OutputLaws.{taking}
 use Rattle.history.proofs.SourceLaws.{accountOf, HealthyS, Brings, started-account, started-healthy, stopped-account, stopped-healthy, updated-account, updated-healthy, added-account, removed-account, healthy-by, brings-can, brings-lin, brings-flexray}
 use Rattle.history.proofs.ReportLaws.{settled-account, settled-healthy}
 use Rattle.history.proofs.EventLaws.{Means, offer-meant, report-fit, means-can, means-lin, means-frame, means-conflict}
@@ -168,7 +169,7 @@ module _ (e : Engine) (s : Steady e) where
       let y : takeOf (e .framer) n .answer ≡ 0 = rw (s .sound) at z in
       rw (s .sound) (record {
         book = refl;
-        framer = takes (e .framer) n y .framer;
+        framer = taking (e .framer) n y .framer;
         fit = λ c q. (tt, tt);
         count = refl;
         eight = s .eight;
@@ -180,7 +181,7 @@ module _ (e : Engine) (s : Steady e) where
 
 -- every accepted call: setup is accepted once only, and switch and offline are no plain calls
 does : (e : Engine) (x : Call) → Steady e → Plain x → stepOf e x .said .answer ≡ 0
-    → Does e (accountsOf (bookOf e) x) (opsOf (bookOf e) x) (stepOf e x .engine)
+    → Does e (accountsOf (bookOf e) (meaning x)) (opsOf (bookOf e) (meaning x)) (stepOf e x .engine)
 unfolding opsOf canReport linReport flexrayReport canUpdate linUpdate flexrayUpdate
 does e (Call.setup f room deadline pairs) s p z =
     let h = setup-empty e f room deadline pairs z in
@@ -193,9 +194,9 @@ does e (Call.stop k) s p z = stop-does e s k z
 does e (Call.can k t key payload) s p z =
     report-does e s none (Ident.Can key) (canReport k t key) payload (p .1) (means-can k t key (length payload) (p .0)) z
 does e (Call.lin k t pid bits payload) s p z =
-    report-does e s (errors bits) (Ident.Lin pid) (linReport k t pid bits) payload p (means-lin k t pid bits (length payload)) z
+    report-does e s (errors bits) (Ident.Lin pid) (linReport k t pid bits) payload (p .1) (means-lin k t pid bits (length payload)) z
 does e (Call.flexray k t channels slot cycle payload) s p z =
-    report-does e s none (Ident.FlexRay channels slot cycle) (frameReport k t channels slot cycle) payload p (means-frame k t channels slot cycle (length payload)) z
+    report-does e s none (Ident.FlexRay channels slot cycle) (frameReport k t channels slot cycle) payload (p .1) (means-frame k t channels slot cycle (length payload)) z
 does e (Call.conflict k t channels slot cycle) s p z =
     report-does e s conflict (Ident.FlexRay channels slot cycle) (conflictReport k t channels slot cycle) [] tt (means-conflict k t channels slot cycle) z
 does e (Call.can-state k online passive busOff counter) s p z =
@@ -214,13 +215,13 @@ does e Call.discards s p z = none-does e s
 
 -- the parts of it, and that a refused call keeps what holds
 module _ (e : Engine) (x : Call) (s : Steady e) (p : Plain x) where
-  pub step-book : stepOf e x .said .answer ≡ 0 → bookOf (stepOf e x .engine) ≡ accountsOf (bookOf e) x
+  pub step-book : stepOf e x .said .answer ≡ 0 → bookOf (stepOf e x .engine) ≡ accountsOf (bookOf e) (meaning x)
   step-book z = does e x s p z .book
 
-  pub step-framer : stepOf e x .said .answer ≡ 0 → stepOf e x .engine .framer ≡ runW (e .framer) (opsOf (bookOf e) x)
+  pub step-framer : stepOf e x .said .answer ≡ 0 → stepOf e x .engine .framer ≡ runW (e .framer) (opsOf (bookOf e) (meaning x))
   step-framer z = does e x s p z .framer
 
-  pub step-fit : (c : Limits) → e .framer .meter .size ≡ c .size → stepOf e x .said .answer ≡ 0 → All (FitOp c) (opsOf (bookOf e) x)
+  pub step-fit : (c : Limits) → e .framer .meter .size ≡ c .size → stepOf e x .said .answer ≡ 0 → All (FitOp c) (opsOf (bookOf e) (meaning x))
   step-fit c q z = does e x s p z .fit c q
 
   pub step-steady : Steady (stepOf e x .engine)

@@ -24,7 +24,8 @@ use Rattle.bus.specs.Report.{canReport, linReport, flexrayReport, frameReport, 
 use Rattle.bus.specs.declared.source.Source.{Source}
 use Rattle.bus.specs.declared.report.Report.{Report}
 use Rattle.bus.proofs.BusLaws.{Passed}
-use Rattle.history.specs.Account.{Event, Account, Bound, none, errors, conflict, written, differs, showsBy, reportEvent, stateEvent}
+use Rattle.history.specs.Meaning.{Bound, none, errors, conflict}
+use Rattle.history.specs.Account.{Event, Account, written, differs, showsBy, reportEvent, stateEvent}
 use Rattle.history.specs.Ledger.{Limits, stateIn, itemIn}
 use Rattle.history.proofs.Machine.{offerIn, Fit}
 use Rattle.history.proofs.SourceLaws.{accountOf, HealthyS, HealthyA, kind-same, shown-same}

@@ -9,7 +9,8 @@ use Rattle.codec.specs.Layout.{layout}
 use Rattle.mirror.specs.Call.{Call, Said}
 use Rattle.mirror.specs.Call as Call
 use Rattle.mirror.specs.Vectors.{Row, p1, p2, p3, p4, p5, p6, p7, p8, p9}
-use Rattle.history.specs.Account.{freshAccount, kindNamed, accountsFor, accountAt, startedAccount, stoppedAccount, updatedAccount, canState, differs, showsBy, reportEvent, reportedAccount, callsFor, stateEvent, tickedAccount, changed}
+use Rattle.history.specs.Meaning.{canState}
+use Rattle.history.specs.Account.{freshAccount, kindNamed, accountsFor, accountAt, startedAccount, stoppedAccount, updatedAccount, differs, showsBy, reportEvent, reportedAccount, callsFor, stateEvent, tickedAccount, changed}
 use Rattle.history.specs.Ledger.{Ledger, emptyLedger, discardCount, stateIn, itemIn, sizeIn, takenIn, waitingIn, offsetIn, lineFor, closesBefore, overdue, hasRoom, close, begin, enter, mirrored, passed, taken}
 use Rattle.history.specs.Deed.{Deed, done, opsOf, accountsBy, ledgerOf}
 use Rattle.history.specs.History.{framesTaken}

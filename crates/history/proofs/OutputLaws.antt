@@ -17,6 +17,7 @@ use Rattle.mirror.specs.Take.{takenOf, outputOf}
 use Rattle.mirror.specs.Call.{Call, stepOf}
 use Rattle.mirror.specs.Call as Call
 use Rattle.mirror.specs.declared.engine.Engine.{Engine}
+use Rattle.history.specs.Meaning.{takes}
 use Rattle.history.specs.Ledger.{Limits, Frame, Ledger, waitingIn}
 use Rattle.history.specs.Ledger as Rules
 use Rattle.history.specs.History.{frameOut}
@@ -32,9 +33,9 @@ pub record Takes (w : Framer) (n : ℕ) : Type 0 where
   pub number : takeOf w n .length ≡ lengthAt (w .queue) (w .meter .first)
   pub framer : takeOf w n .framer ≡ stepW w Rules.take
 
-pub takes : (w : Framer) (n : ℕ) → takeOf w n .answer ≡ 0 → Takes w n
+pub taking : (w : Framer) (n : ℕ) → takeOf w n .answer ≡ 0 → Takes w n
 unfolding takeOf
-takes w n z = go (soundMeter (w .meter)) (eqb (w .meter .waiting) 0) (ltb n (lengthAt (w .queue) (w .meter .first))) refl refl refl
+taking w n z = go (soundMeter (w .meter)) (eqb (w .meter .waiting) 0) (ltb n (lengthAt (w .queue) (w .meter .first))) refl refl refl
   where
     go : (a b d : Bool) → soundMeter (w .meter) ≡ a → eqb (w .meter .waiting) 0 ≡ b → ltb n (lengthAt (w .queue) (w .meter .first)) ≡ d → Takes w n
     go false b d p q r = wrong 18 (rw p at z)
@@ -54,12 +55,12 @@ module _ (c : Limits) (w : Framer) (l : Ledger) (t : Tied c w l) where
   first-small = rw (t .tie .meter) (omega arith)
 
 pub take-out : (c : Limits) (e : Engine) (l : Ledger) (out : List ℕ) → Tied c (e .framer) l → soundOf e ≡ true → stepOf e (Call.take out) .said .answer ≡ 0
-    → frameOut (Call.take out) (stepOf e (Call.take out) .said) ≡ map laid (take 1 (waitingIn l))
+    → frameOut takes (stepOf e (Call.take out) .said) ≡ map laid (take 1 (waitingIn l))
 unfolding takenOf outputOf outOf
 take-out c e l out t s z =
     let w : Framer = e .framer in
     let y : takeOf w (length out) .answer ≡ 0 = rw s at z in
-    let k = takes w (length out) y in
+    let k = taking w (length out) y in
     let bs : List ℕ = frameAt (w .queue) (w .meter .first) in
     let n : length bs ≡ lengthAt (w .queue) (w .meter .first) = frame-length (w .queue) (w .meter .first) (t .tie .store) (first-small c w l t) in
     rw (s, y, k .number)

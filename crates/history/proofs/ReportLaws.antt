@@ -10,7 +10,8 @@ use Rattle.bus.specs.Source.{due}
 use Rattle.bus.specs.Report.{noted, offerOf, settled}
 use Rattle.bus.specs.declared.source.Source.{Source}
 use Rattle.bus.specs.declared.report.Report.{Report}
-use Rattle.history.specs.Account.{Bound, none, errors, conflict, written, cleared, informs, insists, differs, showsBy, reportedAccount}
+use Rattle.history.specs.Meaning.{Bound, none, errors, conflict}
+use Rattle.history.specs.Account.{written, cleared, informs, insists, differs, showsBy, reportedAccount}
 use Rattle.history.proofs.BitLaws.{keep-high, keep-upper, keep-all, raise-errors, raise-conflict}
 use Rattle.history.proofs.SourceLaws.{accountOf, HealthyS, shown-same}
 

@@ -12,13 +12,12 @@ use Rattle.framer.specs.Framer.{emptyFramer}
 use Rattle.bus.specs.Source.{resetSource, freshSource}
 use Rattle.bus.specs.declared.source.Source.{Source}
 use Rattle.mirror.specs.Setup.{resetOf}
-use Rattle.mirror.specs.Call.{Call}
-use Rattle.mirror.specs.Call as Call
 use Rattle.mirror.specs.declared.engine.Engine.{Engine}
 use Rattle.mirror.proofs.MirrorLaws.{few}
 use Rattle.mirror.proofs.Kept.{sound-by}
 use Rattle.framer.proofs.KeptLaws.{kept-empty}
-use Rattle.history.specs.Account.{Account, freshAccount, kindNamed, accountsFor, accountAt, changed, startedAccount, stoppedAccount, updatedAccount, reportedAccount, tickedAccount, accountsOf, Bound, none, errors, conflict}
+use Rattle.history.specs.Meaning.{Meaning, starts, stops, updates, reports, ticks, takes, switches, drops, nothing, Bound}
+use Rattle.history.specs.Account.{Account, freshAccount, kindNamed, accountsFor, accountAt, changed, startedAccount, stoppedAccount, updatedAccount, reportedAccount, tickedAccount, accountsOf}
 use Rattle.history.specs.Ledger.{Limits}
 use Rattle.history.specs.History.{All}
 use Rattle.history.proofs.SourceLaws.{accountOf, HealthyS, fresh-healthy}
@@ -49,29 +48,17 @@ unfolding renewed tickedAccount
 tick-stays [] = refl
 tick-stays (a ∷ book) = ap (λ (x : List Account). renewed a ∷ x) (tick-stays book)
 
-pub book-stays : (book : List Account) (x : Call) → map renewed (accountsOf book x) ≡ map renewed book
+pub book-stays : (book : List Account) (m : Meaning) → map renewed (accountsOf book m) ≡ map renewed book
 unfolding renewed startedAccount stoppedAccount
-book-stays book (Call.start source) = one-stays book source startedAccount (λ a. refl)
-book-stays book (Call.stop source) = one-stays book source stoppedAccount (λ a. refl)
-book-stays book (Call.can source t key payload) = report-stays book source none
-book-stays book (Call.lin source t pid bits payload) = report-stays book source (errors bits)
-book-stays book (Call.flexray source t channels slot cycle payload) = report-stays book source none
-book-stays book (Call.conflict source t channels slot cycle) = report-stays book source conflict
-book-stays book (Call.can-state source online passive busOff counter) = update-stays book source _
-book-stays book (Call.lin-state source online) = update-stays book source _
-book-stays book (Call.flexray-state source online bits) = update-stays book source _
-book-stays book (Call.tick t) = tick-stays book
-book-stays book (Call.setup size room deadline pairs) = refl
-book-stays book (Call.switch size room deadline) = refl
-book-stays book Call.offline = refl
-book-stays book (Call.can-mask source mask code) = refl
-book-stays book (Call.can-range source lower upper) = refl
-book-stays book (Call.lin-mask source mask code) = refl
-book-stays book (Call.lin-range source lower upper) = refl
-book-stays book (Call.slots source low high lowCycle highCycle repetition) = refl
-book-stays book (Call.remove source number) = refl
-book-stays book (Call.take out) = refl
-book-stays book Call.discards = refl
+book-stays book (starts source) = one-stays book source startedAccount (λ a. refl)
+book-stays book (stops source) = one-stays book source stoppedAccount (λ a. refl)
+book-stays book (updates source byte) = update-stays book source byte
+book-stays book (reports source b t ident carries payload) = report-stays book source b
+book-stays book (ticks t) = tick-stays book
+book-stays book takes = refl
+book-stays book (switches size room deadline) = refl
+book-stays book drops = refl
+book-stays book nothing = refl
 
 pub renewed-fresh : (pairs : List ℕ) → map renewed (accountsFor pairs) ≡ accountsFor pairs
 unfolding renewed freshAccount

@@ -12,6 +12,7 @@ use Rattle.mirror.specs.Call.{Call, stepOf, runOf}
 use Rattle.mirror.specs.Call as Call
 use Rattle.mirror.specs.declared.engine.Engine.{Engine}
 use Rattle.mirror.proofs.Refused.{refused-keeps, not-broken}
+use Rattle.history.specs.Meaning.{meaning}
 use Rattle.history.specs.Account.{Account, stateEvents}
 use Rattle.history.specs.Ledger.{Limits, Ledger, Op, waitingIn, runL}
 use Rattle.history.specs.Deed.{Deed, deedsOf, done, opsOf, accountsBy, opsOn}
@@ -26,7 +27,7 @@ use Rattle.history.proofs.EngineLaws.{step-book, step-framer, step-fit,
 
 -- only a take hands out a frame
 out-by : (c : Limits) (e : Engine) (l : Ledger) (x : Call) → Steady e → Tied c (e .framer) l → stepOf e x .said .answer ≡ 0
-    → frameOut x (stepOf e x .said) ≡ map laid (gotOn c l (opsOf (bookOf e) x))
+    → frameOut (meaning x) (stepOf e x .said) ≡ map laid (gotOn c l (opsOf (bookOf e) (meaning x)))
 unfolding opsOf
 out-by c e l (Call.take out) s t z = take-out c e l out t (s .sound) z ∙ ap (map laid) (sym (append-nil (take 1 (waitingIn l))))
 out-by c e l (Call.tick x) s t z = ap (map laid) (sym (got-tick c l (stateEvents x (bookOf e)) x))
@@ -52,7 +53,7 @@ out-by c e l Call.discards s t z = refl
 
 -- one call, accepted or not: the operations of its deed, and what they leave
 unfoldable opsBy : List Account → Deed → List Op
-opsBy book d = pick (done d) (opsOf book (d .call)) []
+opsBy book d = pick (done d) (opsOf book (meaning (d .call))) []
 
 abbrev deedOf : Engine → Call → Deed
 deedOf e x = record { call = x; said = stepOf e x .said }
@@ -61,7 +62,7 @@ record Stepped (c : Limits) (e : Engine) (l : Ledger) (x : Call) : Type 0 where
   book : bookOf (stepOf e x .engine) ≡ accountsBy (bookOf e) (deedOf e x)
   framer : stepOf e x .engine .framer ≡ runW (e .framer) (opsBy (bookOf e) (deedOf e x))
   fit : All (FitOp c) (opsBy (bookOf e) (deedOf e x))
-  out : pick (done (deedOf e x)) (frameOut x (stepOf e x .said)) [] ≡ map laid (gotOn c l (opsBy (bookOf e) (deedOf e x)))
+  out : pick (done (deedOf e x)) (frameOut (meaning x) (stepOf e x .said)) [] ≡ map laid (gotOn c l (opsBy (bookOf e) (deedOf e x)))
 
 stepped : (c : Limits) (e : Engine) (l : Ledger) (x : Call) → Steady e → Plain x → Tied c (e .framer) l → Stepped c e l x
 unfolding opsBy accountsBy done

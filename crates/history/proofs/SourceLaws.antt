@@ -19,7 +19,8 @@ use Rattle.bus.specs.Update.{counterBits, canByte, canUpdate, linUpdate, flexra
 use Rattle.bus.specs.declared.source.Source.{Source}
 use Rattle.bus.specs.declared.update.Update.{Update}
 use Rattle.bus.specs.declared.filter.Filter.{Filter}
-use Rattle.history.specs.Account.{Account, differs, callsFor, stateEvent, tickedAccount, freshAccount, startedAccount, stoppedAccount, updatedAccount, canState}
+use Rattle.history.specs.Meaning.{canState}
+use Rattle.history.specs.Account.{Account, differs, callsFor, stateEvent, tickedAccount, freshAccount, startedAccount, stoppedAccount, updatedAccount}
 use Rattle.history.proofs.Machine.{offerIn}
 
 -- the source without its places

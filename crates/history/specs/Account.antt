@@ -1,17 +1,16 @@
--- What each source has to say: the first half of the ledger (01, rules 4 to 6, and "State" in "Frame bytes").
-use Prim.Native.Nat.{ℕ, _+_, _*_, _/_, min}
+-- What each source has to say: the first half of the ledger (01, rules 4 to 6).
+use Prim.Native.Nat.{ℕ, _+_, _*_, _/_}
 use mathlib.Core.Bool.{Bool, true, false, not, _&&_, _||_}
 use mathlib.Core.List.{List, [], _∷_, _++_, map}
 use lib.ListN.{getD, set}
 use lib.Dec.{ltb, eqb}
-use Rattle.codec.specs.Choice.{pick, bit}
+use Rattle.codec.specs.Choice.{pick}
 use Rattle.codec.specs.declared.time.Time.{Time}
 use Rattle.codec.specs.declared.ident.Kind.{Kind}
 use Rattle.codec.specs.declared.ident.Kind.the-variants as Kind
 use Rattle.codec.specs.declared.ident.Ident.{Ident}
 use Rattle.codec.specs.declared.ident.Ident.the-variants as Ident
-use Rattle.mirror.specs.Call.{Call}
-use Rattle.mirror.specs.Call as Call
+use Rattle.history.specs.Meaning.{Bound, none, errors, conflict, Meaning, starts, stops, updates, reports, ticks, takes, switches, drops, nothing}
 
 -- something to be mirrored: an accepted report, or a state item that a tick calls for. `state` is the source's state byte
 -- without bit 7; `due` says that it is shown even where no loss is pending
@@ -24,7 +23,7 @@ pub record Event : Type 0 where
   pub state : ℕ
   pub due : Bool
 
--- what 01 says of a source, filters apart: whether a report passed them, its answer tells. `shown` is the byte last shown,
+-- what 01 says of a source, filters apart. `shown` is the byte last shown,
 -- where `told` says that one was; `heard`, that a report was accepted since the last tick
 pub record Account : Type 0 where
   pub kind : Kind
@@ -100,17 +99,7 @@ updatedAccount byte a = record {
   heard = a .heard;
 }
 
--- online 64, error-passive 32, bus-off 16, the counter divided by 8 and cut to 15; offline makes all of it zero
-unfoldable pub canState : Bool → Bool → Bool → ℕ → ℕ
-canState online passive busOff counter = pick online (64 + bit passive * 32 + bit busOff * 16 + min (counter / 8) 15) 0
-
--- the frame-bound bits that a report writes: none; LIN's four error bits; FlexRay's conflict bit (rule 4)
-pub data Bound : Type 0 where
-  none : Bound
-  errors : ℕ → Bound
-  conflict : Bound
-
--- the byte with them written, and with them clear
+-- a state byte with the frame-bound bits written, and with them clear (rule 4)
 abbrev pub written : Bound → ℕ → ℕ
 written none byte = byte
 written (errors bits) byte = byte / 16 * 16 + bits
@@ -202,56 +191,29 @@ stateEvents t [] = []
 stateEvents t (a ∷ book) = pick (callsFor a) (stateEvent t a ∷ []) [] ++ stateEvents t book
 
 -- what an accepted call gives to be mirrored
-abbrev pub eventsOf : List Account → Call → List Event
-eventsOf book (Call.can source t key payload) = reportEvent none (accountAt book source) t (Ident.Can key) true payload ∷ []
-eventsOf book (Call.lin source t pid bits payload) = reportEvent (errors bits) (accountAt book source) t (Ident.Lin pid) true payload ∷ []
-eventsOf book (Call.flexray source t channels slot cycle payload) =
-    reportEvent none (accountAt book source) t (Ident.FlexRay channels slot cycle) true payload ∷ []
-eventsOf book (Call.conflict source t channels slot cycle) =
-    reportEvent conflict (accountAt book source) t (Ident.FlexRay channels slot cycle) false [] ∷ []
-eventsOf book (Call.tick t) = stateEvents t book
-eventsOf book (Call.setup size room deadline pairs) = []
-eventsOf book (Call.switch size room deadline) = []
-eventsOf book Call.offline = []
-eventsOf book (Call.start source) = []
-eventsOf book (Call.stop source) = []
-eventsOf book (Call.can-state source online passive busOff counter) = []
-eventsOf book (Call.lin-state source online) = []
-eventsOf book (Call.flexray-state source online bits) = []
-eventsOf book (Call.can-mask source mask code) = []
-eventsOf book (Call.can-range source lower upper) = []
-eventsOf book (Call.lin-mask source mask code) = []
-eventsOf book (Call.lin-range source lower upper) = []
-eventsOf book (Call.slots source low high lowCycle highCycle repetition) = []
-eventsOf book (Call.remove source number) = []
-eventsOf book (Call.take out) = []
-eventsOf book Call.discards = []
+abbrev pub eventsOf : List Account → Meaning → List Event
+eventsOf book (reports source b t ident carries payload) = reportEvent b (accountAt book source) t ident carries payload ∷ []
+eventsOf book (ticks t) = stateEvents t book
+eventsOf book (starts source) = []
+eventsOf book (stops source) = []
+eventsOf book (updates source byte) = []
+eventsOf book takes = []
+eventsOf book (switches size room deadline) = []
+eventsOf book drops = []
+eventsOf book nothing = []
 
 -- one account changed
 unfoldable pub changed : List Account → ℕ → (Account → Account) → List Account
 changed book source f = set book source (f (accountAt book source))
 
 -- the accounts after an accepted call
-abbrev pub accountsOf : List Account → Call → List Account
-accountsOf book (Call.start source) = changed book source startedAccount
-accountsOf book (Call.stop source) = changed book source stoppedAccount
-accountsOf book (Call.can source t key payload) = changed book source (reportedAccount none)
-accountsOf book (Call.lin source t pid bits payload) = changed book source (reportedAccount (errors bits))
-accountsOf book (Call.flexray source t channels slot cycle payload) = changed book source (reportedAccount none)
-accountsOf book (Call.conflict source t channels slot cycle) = changed book source (reportedAccount conflict)
-accountsOf book (Call.can-state source online passive busOff counter) =
-    changed book source (updatedAccount (canState online passive busOff counter))
-accountsOf book (Call.lin-state source online) = changed book source (updatedAccount (bit online * 64))
-accountsOf book (Call.flexray-state source online bits) = changed book source (updatedAccount (bit online * 64 + bits))
-accountsOf book (Call.tick t) = map tickedAccount book
-accountsOf book (Call.setup size room deadline pairs) = book
-accountsOf book (Call.switch size room deadline) = book
-accountsOf book Call.offline = book
-accountsOf book (Call.can-mask source mask code) = book
-accountsOf book (Call.can-range source lower upper) = book
-accountsOf book (Call.lin-mask source mask code) = book
-accountsOf book (Call.lin-range source lower upper) = book
-accountsOf book (Call.slots source low high lowCycle highCycle repetition) = book
-accountsOf book (Call.remove source number) = book
-accountsOf book (Call.take out) = book
-accountsOf book Call.discards = book
+abbrev pub accountsOf : List Account → Meaning → List Account
+accountsOf book (starts source) = changed book source startedAccount
+accountsOf book (stops source) = changed book source stoppedAccount
+accountsOf book (updates source byte) = changed book source (updatedAccount byte)
+accountsOf book (reports source b t ident carries payload) = changed book source (reportedAccount b)
+accountsOf book (ticks t) = map tickedAccount book
+accountsOf book takes = book
+accountsOf book (switches size room deadline) = book
+accountsOf book drops = book
+accountsOf book nothing = book

@@ -10,6 +10,8 @@ use lib.Dec.{leb, eqb}
 use Rattle.codec.specs.Choice.{pick}
 use Rattle.codec.specs.Number.{Bytes}
 use Rattle.codec.specs.Time.{ns}
+use Rattle.codec.specs.declared.ident.Ident.{Ident}
+use Rattle.codec.specs.declared.ident.Ident.the-variants as Ident
 use Rattle.codec.specs.declared.item.State.{State}
 use Rattle.codec.specs.declared.item.State.the-variants as State
 use Rattle.reader.specs.declared.frame.Judged.the-variants as Judged
@@ -19,36 +21,34 @@ use Rattle.framer.specs.declared.queue.Queue.{Queue}
 use Rattle.framer.specs.Queue.{frameAt}
 use Rattle.mirror.specs.Engine.{discardsOf}
 use Rattle.mirror.specs.Call.{Call, Said, runOf}
-use Rattle.mirror.specs.Call as Call
 use Rattle.mirror.specs.declared.engine.Engine.{Engine}
+use Rattle.history.specs.Meaning.{Meaning, starts, stops, updates, reports, ticks, takes, switches, drops, nothing, meaning}
 use Rattle.history.specs.Account.{Account, Event}
 use Rattle.history.specs.Ledger.{Limits, Line, Frame, Closed, Ledger, emptyLedger, Op, stepL, runL, itemIn, entryIn, sizeIn, total, discardCount, takenIn, waitingIn, offsetIn, lineFor, linesIn, fillingIn}
 use Rattle.history.specs.Ledger as Op
 use Rattle.history.specs.Deed.{Deed, deedsOf, done, eventsOn, opsOn, ledgerOf}
 
--- a list of calls with no offline or switch, whose ids and payloads are of the machine's types
+-- an id and a payload of the machine's types: a CAN key is below 2^32, a payload's numbers are bytes
+abbrev pub KeyFits : Ident → Type 0
+KeyFits (Ident.Can key) = key < 2 ^ 32
+KeyFits (Ident.Lin pid) = Unit
+KeyFits (Ident.FlexRay channels slot cycle) = Unit
+KeyFits (Ident.Bare kind) = Unit
+
+abbrev pub Allowed : Meaning → Type 0
+Allowed (reports source b t ident carries payload) = KeyFits ident × Bytes payload
+Allowed (switches size room deadline) = ⊥
+Allowed drops = ⊥
+Allowed (starts source) = Unit
+Allowed (stops source) = Unit
+Allowed (updates source byte) = Unit
+Allowed (ticks t) = Unit
+Allowed takes = Unit
+Allowed nothing = Unit
+
+-- neither offline nor switch, and of the machine's types
 abbrev pub Plain : Call → Type 0
-Plain (Call.can source t key payload) = (key < 2 ^ 32) × Bytes payload
-Plain (Call.lin source t pid bits payload) = Bytes payload
-Plain (Call.flexray source t channels slot cycle payload) = Bytes payload
-Plain (Call.switch size room deadline) = ⊥
-Plain Call.offline = ⊥
-Plain (Call.setup size room deadline pairs) = Unit
-Plain (Call.start source) = Unit
-Plain (Call.stop source) = Unit
-Plain (Call.conflict source t channels slot cycle) = Unit
-Plain (Call.can-state source online passive busOff counter) = Unit
-Plain (Call.lin-state source online) = Unit
-Plain (Call.flexray-state source online bits) = Unit
-Plain (Call.can-mask source mask code) = Unit
-Plain (Call.can-range source lower upper) = Unit
-Plain (Call.lin-mask source mask code) = Unit
-Plain (Call.lin-range source lower upper) = Unit
-Plain (Call.slots source low high lowCycle highCycle repetition) = Unit
-Plain (Call.remove source number) = Unit
-Plain (Call.tick t) = Unit
-Plain (Call.take out) = Unit
-Plain Call.discards = Unit
+Plain x = Allowed (meaning x)
 
 abbrev pub All : {A : Type 0} → (A → Type 0) → List A → Type 0
 All P [] = Unit
@@ -62,32 +62,20 @@ Both R (x ∷ xs) [] = ⊥
 Both R (x ∷ xs) (y ∷ ys) = R x y × Both R xs ys
 
 -- the bytes: what takes that were answered 0 put at the front of their outputs
-abbrev pub frameOut : Call → Said → List (List ℕ)
-frameOut (Call.take out) s = ListN.take (s .number) (s .output) ∷ []
-frameOut (Call.setup size room deadline pairs) s = []
-frameOut (Call.switch size room deadline) s = []
-frameOut Call.offline s = []
-frameOut (Call.start source) s = []
-frameOut (Call.stop source) s = []
-frameOut (Call.can source t key payload) s = []
-frameOut (Call.lin source t pid bits payload) s = []
-frameOut (Call.flexray source t channels slot cycle payload) s = []
-frameOut (Call.conflict source t channels slot cycle) s = []
-frameOut (Call.can-state source online passive busOff counter) s = []
-frameOut (Call.lin-state source online) s = []
-frameOut (Call.flexray-state source online bits) s = []
-frameOut (Call.can-mask source mask code) s = []
-frameOut (Call.can-range source lower upper) s = []
-frameOut (Call.lin-mask source mask code) s = []
-frameOut (Call.lin-range source lower upper) s = []
-frameOut (Call.slots source low high lowCycle highCycle repetition) s = []
-frameOut (Call.remove source number) s = []
-frameOut (Call.tick t) s = []
-frameOut Call.discards s = []
+abbrev pub frameOut : Meaning → Said → List (List ℕ)
+frameOut takes s = ListN.take (s .number) (s .output) ∷ []
+frameOut (starts source) s = []
+frameOut (stops source) s = []
+frameOut (updates source byte) s = []
+frameOut (reports source b t ident carries payload) s = []
+frameOut (ticks t) s = []
+frameOut (switches size room deadline) s = []
+frameOut drops s = []
+frameOut nothing s = []
 
 abbrev pub framesTaken : List Deed → List (List ℕ)
 framesTaken [] = []
-framesTaken (d ∷ ds) = pick (done d) (frameOut (d .call) (d .said)) [] ++ framesTaken ds
+framesTaken (d ∷ ds) = pick (done d) (frameOut (meaning (d .call)) (d .said)) [] ++ framesTaken ds
 
 -- n slots of the ring of eight from number k on
 abbrev pub slotsFrom : Queue → ℕ → ℕ → List (List ℕ)

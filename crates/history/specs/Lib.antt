@@ -1,3 +1,4 @@
+pub mod Meaning
 pub mod Account
 pub mod Ledger
 pub mod Deed
