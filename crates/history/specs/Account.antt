@@ -23,8 +23,8 @@ pub record Event : Type 0 where
   pub state : ℕ
   pub due : Bool
 
--- what 01 says of a source, filters apart. `shown` is the byte last shown,
--- where `told` says that one was; `heard`, that a report was accepted since the last tick
+-- what 01 says of a source, filters apart. `shown` is the byte last shown, where `told` says that one was; `heard`, that a report
+-- was accepted since the last tick
 pub record Account : Type 0 where
   pub kind : Kind
   pub network : ℕ
