@@ -23,7 +23,7 @@ use Rattle.history.specs.Meaning.{Meaning, starts, stops, updates, repor
 use Rattle.history.specs.Account.{Account, accountsFor}
 use Rattle.history.specs.Ledger.{Limits, Ledger, Op, emptyLedger, runL}
 use Rattle.history.specs.Deed.{deedsOf, done, opsOn}
-use Rattle.history.specs.History.{All, Allowed, Plain, History}
+use Rattle.history.specs.History.{All, Allowed, Plain, setUp, Leaves}
 use Rattle.history.specs.Again.{Resets, Typed, limitsOf, limitsOn}
 use Rattle.history.proofs.TestLaws.{wrong}
 use Rattle.history.proofs.MeterLaws.{meterOf}
@@ -142,13 +142,12 @@ run-alive c book e (x ∷ xs) a p = run-alive (limitsBy c e x) book (stepOf e x 
 
 -- so demand 3 holds from each accepted offline or switch on, however many there were before
 pub again : (e : Engine) (c : Limits) (pairs : List ℕ) (before : List Call) (x : Call) (after : List Call)
-    → stepOf e (Call.setup (c .size) (c .room) (c .deadline) pairs) .said .answer ≡ 0 → All Typed before → Resets (meaning x)
-    → stepOf (runOf (stepOf e (Call.setup (c .size) (c .room) (c .deadline) pairs) .engine) before) x .said .answer ≡ 0 → All Plain after
-    → History (limitsOf (limitsOn c (deedsOf (stepOf e (Call.setup (c .size) (c .room) (c .deadline) pairs) .engine) before)) (meaning x)) (accountsFor pairs)
-    (stepOf (runOf (stepOf e (Call.setup (c .size) (c .room) (c .deadline) pairs) .engine) before) x .engine) after
+    → setUp e c pairs .said .answer ≡ 0 → All Typed before → Resets (meaning x) → stepOf (runOf (setUp e c pairs .engine) before) x .said .answer ≡ 0 → All Plain after
+    → Leaves (limitsOf (limitsOn c (deedsOf (setUp e c pairs .engine) before)) (meaning x)) (accountsFor pairs)
+    (stepOf (runOf (setUp e c pairs .engine) before) x .engine) after
 again e c pairs before x after z p r y q =
-    let b = setup-begun e (c .size) (c .room) (c .deadline) pairs z in
-    let u : Engine = stepOf e (Call.setup (c .size) (c .room) (c .deadline) pairs) .engine in
+    let b = setup-begun e c pairs z in
+    let u : Engine = setUp e c pairs .engine in
     let v : Engine = runOf u before in
     let d : Limits = limitsOn c (deedsOf u before) in
     let k : Alive d (accountsFor pairs) v

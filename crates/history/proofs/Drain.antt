@@ -18,7 +18,7 @@ use Rattle.history.specs.Meaning.{takes}
 use Rattle.history.specs.Ledger.{Limits, Frame, Ledger, emptyLedger, waitingIn, taken, runL}
 use Rattle.history.specs.Ledger as Rules
 use Rattle.history.specs.Deed.{deedsOf, done, opsOf, opsOn}
-use Rattle.history.specs.History.{Plain, All, frameOut, framesTaken, framesWaiting}
+use Rattle.history.specs.History.{Plain, All, frameOut, framesTaken, framesWaiting, setUp}
 use Rattle.history.proofs.Machine.{laid, stepW}
 use Rattle.history.proofs.MeterLaws.{meterOf}
 use Rattle.history.proofs.SimLaws.{Tied, step-tied}
@@ -82,9 +82,6 @@ drains c book e calls out b p h =
     rw (waiting-are c u l t, n) (takes-all c u l out (waitingIn l) (end-steady c book e calls b p) t h refl)
 
 -- after an accepted setup and any calls
-pub drain : (e : Engine) (size room deadline : ℕ) (pairs : List ℕ) (calls : List Call) (out : List ℕ)
-    → stepOf e (Call.setup size room deadline pairs) .said .answer ≡ 0 → All Plain calls → 1024 ≤ length out
-    → Drains (runOf (stepOf e (Call.setup size room deadline pairs) .engine) calls) out
-drain e size room deadline pairs calls out z p h =
-    drains (record { size = size; room = room; deadline = deadline }) (accountsFor pairs) (stepOf e (Call.setup size room deadline pairs) .engine) calls out
-    (setup-begun e size room deadline pairs z) p h
+pub drain : (e : Engine) (c : Limits) (pairs : List ℕ) (calls : List Call) (out : List ℕ) → setUp e c pairs .said .answer ≡ 0 → All Plain calls
+    → 1024 ≤ length out → Drains (runOf (setUp e c pairs .engine) calls) out
+drain e c pairs calls out z p h = drains c (accountsFor pairs) (setUp e c pairs .engine) calls out (setup-begun e c pairs z) p h

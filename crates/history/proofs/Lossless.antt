@@ -12,11 +12,10 @@ use Rattle.codec.specs.Choice.{pick}
 use Rattle.codec.specs.declared.item.Item.{Item}
 use Rattle.reader.specs.Listing.{Yield, stepping}
 use Rattle.mirror.specs.Engine.{discardsOf}
-use Rattle.mirror.specs.Call.{Call, runOf}
 use Rattle.mirror.specs.declared.engine.Engine.{Engine}
 use Rattle.history.specs.Account.{Account}
 use Rattle.history.specs.Ledger.{Limits, Line, Frame, Closed, Ledger, stateIn, itemIn, isEmpty, keptIn, discardedIn, discardCount, takenIn, waitingIn, fillingIn, linesClosed, linesIn}
-use Rattle.history.specs.Deed.{deedsOf, eventsOn, ledgerOf}
+use Rattle.history.specs.Deed.{Deed, eventsOn}
 use Rattle.history.specs.History.{All, Both, Shows, Reads, lostBit, Marked, Marks, framesTaken, framesWaiting, framesFilling, History, yieldsIn, ShowsEvent}
 use Rattle.history.proofs.ListLaws.{empty-is, length-none, all-append, both-append, both-none}
 
@@ -88,41 +87,38 @@ filled-none f e = go (isEmpty (f .lines)) refl
     go true q = empty-is (f .lines) q
     go false q = absurd (false≢true (ap isEmpty (rw q at e)))
 
-module _ (c : Limits) (book : List Account) (e : Engine) (calls : List Call) (h : History c book e calls) where
-  abbrev end : Ledger
-  end = ledgerOf c book (deedsOf e calls)
-
+module _ (c : Limits) (book : List Account) (ds : List Deed) (l : Ledger) (u : Engine) (h : History c book ds l u) where
   -- a, in one row
-  pub in-order : Both Reads (framesTaken (deedsOf e calls) ++ framesWaiting (runOf e calls) ++ framesFilling (runOf e calls)) (keptIn (end .closed) ++ fillingIn end)
+  pub in-order : Both Reads (framesTaken ds ++ framesWaiting u ++ framesFilling u) (keptIn (l .closed) ++ fillingIn l)
   unfolding takenIn waitingIn
   in-order =
-      rw (← take-append-drop (end .taken) (keptIn (end .closed)))
-      (both-append Reads (framesTaken (deedsOf e calls) ++ framesWaiting (runOf e calls)) (framesFilling (runOf e calls)) (takenIn end ++ waitingIn end) (fillingIn end)
-      (both-append Reads (framesTaken (deedsOf e calls)) (framesWaiting (runOf e calls)) (takenIn end) (waitingIn end) (h .taken) (h .waiting)) (h .filling))
+      rw (← take-append-drop (l .taken) (keptIn (l .closed)))
+      (both-append Reads (framesTaken ds ++ framesWaiting u) (framesFilling u) (takenIn l ++ waitingIn l) (fillingIn l)
+      (both-append Reads (framesTaken ds) (framesWaiting u) (takenIn l) (waitingIn l) (h .taken) (h .waiting)) (h .filling))
 
-  module _ (none : discardsOf (runOf e calls) .count ≡ 0) (drained : framesWaiting (runOf e calls) ≡ []) (flushed : framesFilling (runOf e calls) ≡ []) where
-    none-discarded : discardedIn (end .closed) ≡ []
+  module _ (none : discardsOf u .count ≡ 0) (drained : framesWaiting u ≡ []) (flushed : framesFilling u ≡ []) where
+    none-discarded : discardedIn (l .closed) ≡ []
     unfolding discardCount
     none-discarded =
-        let m : discardCount end ≡ 0 = sym (h .discards) ∙ none in
-        length-none (discardedIn (end .closed)) (omega arith)
+        let m : discardCount l ≡ 0 = sym (h .discards) ∙ none in
+        length-none (discardedIn (l .closed)) (omega arith)
 
-    none-filling : end .filling .lines ≡ []
+    none-filling : l .filling .lines ≡ []
     unfolding fillingIn
-    none-filling = filled-none (end .filling) (both-none Reads (framesFilling (runOf e calls)) (fillingIn end) flushed (h .filling))
+    none-filling = filled-none (l .filling) (both-none Reads (framesFilling u) (fillingIn l) flushed (h .filling))
 
-    all-taken : takenIn end ≡ keptIn (end .closed)
+    all-taken : takenIn l ≡ keptIn (l .closed)
     unfolding takenIn waitingIn
     all-taken =
-        let w : waitingIn end ≡ [] = both-none Reads (framesWaiting (runOf e calls)) (waitingIn end) drained (h .waiting) in
-        sym (append-nil (takenIn end)) ∙ ap (λ (fs : List Frame). takenIn end ++ fs) (sym w) ∙ take-append-drop (end .taken) (keptIn (end .closed))
+        let w : waitingIn l ≡ [] = both-none Reads (framesWaiting u) (waitingIn l) drained (h .waiting) in
+        sym (append-nil (takenIn l)) ∙ ap (λ (fs : List Frame). takenIn l ++ fs) (sym w) ∙ take-append-drop (l .taken) (keptIn (l .closed))
 
-    lines-taken : linesOf (takenIn end) ≡ linesIn end
+    lines-taken : linesOf (takenIn l) ≡ linesIn l
     unfolding linesIn
-    lines-taken = rw (all-taken, kept-lines (end .closed) none-discarded, none-filling) (sym (append-nil (linesClosed (end .closed))))
+    lines-taken = rw (all-taken, kept-lines (l .closed) none-discarded, none-filling) (sym (append-nil (linesClosed (l .closed))))
 
-    pub lossless : Both ShowsEvent (yieldsIn (framesTaken (deedsOf e calls))) (eventsOn book (deedsOf e calls))
+    pub lossless : Both ShowsEvent (yieldsIn (framesTaken ds)) (eventsOn book ds)
     lossless =
-        let u : All Unlost (linesOf (takenIn end))
-        = rw (all-taken, kept-lines (end .closed) none-discarded) (unlost (end .closed) (end .filling .lines) none-discarded (h .marks)) in
-        rw (← h .items, ← lines-taken) (shows-events (yieldsIn (framesTaken (deedsOf e calls))) (linesOf (takenIn end)) u (yields-lines (framesTaken (deedsOf e calls)) (takenIn end) (h .taken)))
+        let clear : All Unlost (linesOf (takenIn l))
+        = rw (all-taken, kept-lines (l .closed) none-discarded) (unlost (l .closed) (l .filling .lines) none-discarded (h .marks)) in
+        rw (← h .items, ← lines-taken) (shows-events (yieldsIn (framesTaken ds)) (linesOf (takenIn l)) clear (yields-lines (framesTaken ds) (takenIn l) (h .taken)))

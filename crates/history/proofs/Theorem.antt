@@ -8,13 +8,12 @@ use lib.ListN.{length, take}
 use Rattle.codec.specs.Choice.{pick}
 use Rattle.framer.specs.declared.meter.Meter.{Meter}
 use Rattle.mirror.specs.Engine.{soundOf, discardsOf}
-use Rattle.mirror.specs.Call.{Call, stepOf, runOf}
-use Rattle.mirror.specs.Call as Call
+use Rattle.mirror.specs.Call.{Call, runOf}
 use Rattle.mirror.specs.declared.engine.Engine.{Engine}
 use Rattle.history.specs.Account.{Account, accountsFor}
 use Rattle.history.specs.Ledger.{Limits, Ledger, Op, emptyLedger, isEmpty, keptIn, discardCount, takenIn, waitingIn, fillingIn, runL}
 use Rattle.history.specs.Deed.{deedsOf, opsOn, ledgerOf}
-use Rattle.history.specs.History.{Plain, All, framesTaken, framesWaiting, framesFilling, History}
+use Rattle.history.specs.History.{Plain, All, framesTaken, framesWaiting, framesFilling, setUp, Leaves}
 use Rattle.history.proofs.Machine.{laid}
 use Rattle.history.proofs.ListLaws.{all-map, all-take, all-drop}
 use Rattle.history.proofs.LedgerLaws.{closes-at, items-are}
@@ -83,7 +82,7 @@ module _ (c : Limits) (book : List Account) (e : Engine) (calls : List Call) (b 
   good : All (Good c) (keptIn (end .closed))
   good = good-kept c ops small (run-is .fit)
 
-  from-book : History c (bookOf e) e calls
+  from-book : Leaves c (bookOf e) e calls
   unfolding ledgerOf takenIn waitingIn
   from-book = record {
     taken = rw taken-are (all-read c (takenIn end) (all-take (Good c) (end .taken) (keptIn (end .closed)) good));
@@ -97,21 +96,17 @@ module _ (c : Limits) (book : List Account) (e : Engine) (calls : List Call) (b 
     answers = run-is .answers;
   }
 
-  pub history-from : History c book e calls
-  history-from = subst (λ (x : List Account). History c x e calls) (b .accounts) from-book
+  pub history-from : Leaves c book e calls
+  history-from = subst (λ (x : List Account). Leaves c x e calls) (b .accounts) from-book
 
-pub setup-begun : (e : Engine) (size room deadline : ℕ) (pairs : List ℕ) → stepOf e (Call.setup size room deadline pairs) .said .answer ≡ 0
-    → Begun (record { size = size; room = room; deadline = deadline }) (accountsFor pairs) (stepOf e (Call.setup size room deadline pairs) .engine)
-setup-begun e size room deadline pairs z = record {
-  steady = setup-steady e size room deadline pairs z;
-  tied = rw (setup-framer e size room deadline pairs z) (empty-tied (record { size = size; room = room; deadline = deadline }) (setup-limits e size room deadline pairs z));
-  accounts = setup-book e size room deadline pairs z;
+pub setup-begun : (e : Engine) (c : Limits) (pairs : List ℕ) → setUp e c pairs .said .answer ≡ 0 → Begun c (accountsFor pairs) (setUp e c pairs .engine)
+setup-begun e c pairs z = record {
+  steady = setup-steady e (c .size) (c .room) (c .deadline) pairs z;
+  tied = rw (setup-framer e (c .size) (c .room) (c .deadline) pairs z) (empty-tied c (setup-limits e (c .size) (c .room) (c .deadline) pairs z));
+  accounts = setup-book e (c .size) (c .room) (c .deadline) pairs z;
 }
 
 -- demand 3: after an accepted setup, for every list of calls with no offline or switch
-pub history : (e : Engine) (size room deadline : ℕ) (pairs : List ℕ) (calls : List Call)
-    → stepOf e (Call.setup size room deadline pairs) .said .answer ≡ 0 → All Plain calls
-    → History (record { size = size; room = room; deadline = deadline }) (accountsFor pairs) (stepOf e (Call.setup size room deadline pairs) .engine) calls
-history e size room deadline pairs calls z p =
-    history-from (record { size = size; room = room; deadline = deadline }) (accountsFor pairs) (stepOf e (Call.setup size room deadline pairs) .engine) calls
-    (setup-begun e size room deadline pairs z) p
+pub history : (e : Engine) (c : Limits) (pairs : List ℕ) (calls : List Call) → setUp e c pairs .said .answer ≡ 0 → All Plain calls
+    → Leaves c (accountsFor pairs) (setUp e c pairs .engine) calls
+history e c pairs calls z p = history-from c (accountsFor pairs) (setUp e c pairs .engine) calls (setup-begun e c pairs z) p

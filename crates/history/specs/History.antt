@@ -20,7 +20,8 @@ use Rattle.reader.specs.Listing.{Yield, stepping}
 use Rattle.framer.specs.declared.queue.Queue.{Queue}
 use Rattle.framer.specs.Queue.{frameAt}
 use Rattle.mirror.specs.Engine.{discardsOf}
-use Rattle.mirror.specs.Call.{Call, Said, runOf}
+use Rattle.mirror.specs.Call.{Call, Said, Step, stepOf, runOf}
+use Rattle.mirror.specs.Call as Call
 use Rattle.mirror.specs.declared.engine.Engine.{Engine}
 use Rattle.history.specs.Meaning.{Meaning, starts, stops, updates, reports, ticks, takes, switches, drops, nothing, meaning}
 use Rattle.history.specs.Account.{Account, Event}
@@ -135,23 +136,33 @@ abbrev pub Marks : Bool → List Closed → List Line → Type 0
 Marks b [] xs = Marked b xs
 Marks b (k ∷ ks) xs = Marked b (k .frame .lines) × Marks (not (k .kept)) ks xs
 
--- demand 3, for an engine e after setup with the limits c and the accounts `book`
-pub record History (c : Limits) (book : List Account) (e : Engine) (calls : List Call) : Type 0 where
+-- demand 3: with the limits c and the accounts `book` of a setup, the deeds ds after it have left the engine u, and the ledger l
+-- was kept of them
+pub record History (c : Limits) (book : List Account) (ds : List Deed) (l : Ledger) (u : Engine) : Type 0 where
   -- a: the frames taken, then those waiting, then the one being filled read as those of the ledger
-  pub taken : Both Reads (framesTaken (deedsOf e calls)) (takenIn (ledgerOf c book (deedsOf e calls)))
-  pub waiting : Both Reads (framesWaiting (runOf e calls)) (waitingIn (ledgerOf c book (deedsOf e calls)))
-  pub filling : Both Reads (framesFilling (runOf e calls)) (fillingIn (ledgerOf c book (deedsOf e calls)))
+  pub taken : Both Reads (framesTaken ds) (takenIn l)
+  pub waiting : Both Reads (framesWaiting u) (waitingIn l)
+  pub filling : Both Reads (framesFilling u) (fillingIn l)
   -- b: the ledger's lines are the accepted reports and the state items called for, in order
-  pub items : map (λ (x : Line). x .event) (linesIn (ledgerOf c book (deedsOf e calls))) ≡ eventsOn book (deedsOf e calls)
-  -- c: at each moment a frame closes exactly when rule 2 or 6 says, and is discarded exactly when Q wait
-  pub closes : (before after : List Op) (op : Op) → opsOn book (deedsOf e calls) ≡ before ++ (op ∷ after)
+  pub items : map (λ (x : Line). x .event) (linesIn l) ≡ eventsOn book ds
+  -- c: at each moment a frame closes exactly when rule 2 or 6 says, and is discarded exactly when Q wait; none closes empty
+  pub closes : (before after : List Op) (op : Op) → opsOn book ds ≡ before ++ (op ∷ after)
       → Closes c (runL c emptyLedger before) op (stepL c (runL c emptyLedger before) op)
-  pub discards : discardsOf (runOf e calls) .count ≡ discardCount (ledgerOf c book (deedsOf e calls))
-  pub filled : All (λ (k : Closed). k .frame .lines ≡ [] → ⊥) (ledgerOf c book (deedsOf e calls) .closed)
+  pub discards : discardsOf u .count ≡ discardCount l
+  pub filled : All (λ (k : Closed). k .frame .lines ≡ [] → ⊥) (l .closed)
+  -- d: in `Reads`, for each line
   -- e: the lost bit stands exactly on the first item made after a discard
-  pub marks : Marks false (ledgerOf c book (deedsOf e calls) .closed) (ledgerOf c book (deedsOf e calls) .filling .lines)
+  pub marks : Marks false (l .closed) (l .filling .lines)
   -- f: no call answers 19
-  pub answers : All (λ (d : Deed). d .said .answer ≡ 19 → ⊥) (deedsOf e calls)
+  pub answers : All (λ (d : Deed). d .said .answer ≡ 19 → ⊥) ds
+
+-- setup with the limits c and a list of kinds and ids
+abbrev pub setUp : Engine → Limits → List ℕ → Step
+setUp e c pairs = stepOf e (Call.setup (c .size) (c .room) (c .deadline) pairs)
+
+-- what calls leave of an engine just set up
+abbrev pub Leaves : Limits → List Account → Engine → List Call → Type 0
+Leaves c book e calls = History c book (deedsOf e calls) (ledgerOf c book (deedsOf e calls)) (runOf e calls)
 
 -- what stepping through one frame after the other yields
 abbrev pub yieldsIn : List (List ℕ) → List Yield

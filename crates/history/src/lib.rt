@@ -1,0 +1,1 @@
+// Definitions in specs/, theorems in proofs/: this crate has no code.
