@@ -29,3 +29,4 @@ pub mod Examples
 pub mod Drain
 pub mod ResetLaws
 pub mod Again
+pub mod Witness
