@@ -15,6 +15,7 @@ use Rattle.mirror.specs.Call.{Call, stepOf, runOf}
 use Rattle.mirror.specs.Call as Call
 use Rattle.mirror.specs.declared.engine.Engine.{Engine}
 use Rattle.history.specs.Meaning.{takes}
+use Rattle.history.specs.Account.{Account, accountsFor}
 use Rattle.history.specs.Ledger.{Limits, Frame, Ledger, emptyLedger, waitingIn, taken, runL}
 use Rattle.history.specs.Ledger as Rules
 use Rattle.history.specs.Deed.{deedsOf, done, opsOf, opsOn}
@@ -28,7 +29,6 @@ use Rattle.history.proofs.OutputLaws.{take-out}
 use Rattle.history.proofs.BookLaws.{bookOf, Steady}
 use Rattle.history.proofs.EngineLaws.{step-framer, step-steady}
 use Rattle.history.proofs.Theorem.{Begun, end-steady, end-tied, waiting-are, setup-begun}
-use Rattle.history.specs.Account.{Account, accountsFor}
 
 -- as many takes as frames wait hand out just these
 abbrev pub Drains : Engine → List ℕ → Type 0
@@ -72,7 +72,7 @@ takes-all c e l out (f ∷ fs) s t h q =
     rw (eq-eqb (stepOf e (Call.take out) .said .answer) 0 z)
     (ap (λ (x : List (List ℕ)). x ++ framesTaken (deedsOf u (replicate (length fs) (Call.take out)))) o ∙ ap (λ (x : List (List ℕ)). laid f ∷ x) r)
 
-pub drains : (c : Limits) (book : List Account) (e : Engine) (calls : List Call) (out : List ℕ) → Begun c book e → All Plain calls → 1024 ≤ length out
+drains : (c : Limits) (book : List Account) (e : Engine) (calls : List Call) (out : List ℕ) → Begun c book e → All Plain calls → 1024 ≤ length out
     → Drains (runOf e calls) out
 drains c book e calls out b p h =
     let u : Engine = runOf e calls in

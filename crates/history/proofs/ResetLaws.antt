@@ -43,22 +43,25 @@ module _ (book : List Account) where
   unfolding renewed updatedAccount
   update-stays source byte = one-stays source (updatedAccount byte) (λ a. refl)
 
-tick-stays : (book : List Account) → map renewed (map tickedAccount book) ≡ map renewed book
-unfolding renewed tickedAccount
-tick-stays [] = refl
-tick-stays (a ∷ book) = ap (λ (x : List Account). renewed a ∷ x) (tick-stays book)
+each-stays : (f : Account → Account) → ((a : Account) → renewed (f a) ≡ renewed a) → (book : List Account) → map renewed (map f book) ≡ map renewed book
+each-stays f e [] = refl
+each-stays f e (a ∷ book) = rw (e a, each-stays f e book)
 
 pub book-stays : (book : List Account) (m : Meaning) → map renewed (accountsOf book m) ≡ map renewed book
-unfolding renewed startedAccount stoppedAccount
+unfolding renewed startedAccount stoppedAccount tickedAccount
 book-stays book (starts source) = one-stays book source startedAccount (λ a. refl)
 book-stays book (stops source) = one-stays book source stoppedAccount (λ a. refl)
 book-stays book (updates source byte) = update-stays book source byte
 book-stays book (reports source b t ident carries payload) = report-stays book source b
-book-stays book (ticks t) = tick-stays book
+book-stays book (ticks t) = each-stays tickedAccount (λ a. refl) book
 book-stays book takes = refl
 book-stays book (switches size room deadline) = refl
 book-stays book drops = refl
 book-stays book nothing = refl
+
+pub renewed-twice : (book : List Account) → map renewed (map renewed book) ≡ map renewed book
+unfolding renewed freshAccount
+renewed-twice book = each-stays renewed (λ a. refl) book
 
 pub renewed-fresh : (pairs : List ℕ) → map renewed (accountsFor pairs) ≡ accountsFor pairs
 unfolding renewed freshAccount
@@ -95,8 +98,3 @@ module _ (c : Limits) (e : Engine) (s : Steady e) (h : limitsOk (c .size) (c .ro
   pub after-begun : Begun c (map renewed (bookOf e)) after
   unfolding resetOf bookOf
   after-begun = record { steady = after-steady; tied = empty-tied c h; accounts = reset-accounts (e .sources) (e .count) }
-
-pub renewed-twice : (book : List Account) → map renewed (map renewed book) ≡ map renewed book
-unfolding renewed freshAccount
-renewed-twice [] = refl
-renewed-twice (a ∷ book) = ap (λ (x : List Account). renewed a ∷ x) (renewed-twice book)
