@@ -5,10 +5,9 @@ use mathlib.Core.Bool.{true}
 use mathlib.Core.List.{List, [], _∷_, _++_, map}
 use native.Mathlib.Omega.{arith}
 use lib.ListN.{length, take, replicate, length-map}
-use borrow.Author.Tests.{ne-eqb, le-ltb, le-leb, eq-eqb}
+use borrow.Author.Tests.{ne-eqb, le-ltb, eq-eqb}
 use Rattle.framer.specs.Queue.{lengthAt}
 use Rattle.framer.specs.Framer.{takeOf}
-use Rattle.framer.specs.declared.queue.Queue.{Queue}
 use Rattle.mirror.specs.Engine.{soundOf}
 use Rattle.mirror.specs.Take.{takenOf}
 use Rattle.mirror.specs.Call.{Call, stepOf, runOf}
@@ -25,7 +24,8 @@ use Rattle.history.proofs.MeterLaws.{meterOf}
 use Rattle.history.proofs.SimLaws.{Tied, step-tied}
 use Rattle.history.proofs.LedgerLaws.{took-waiting}
 use Rattle.history.proofs.Moves.{taken-one}
-use Rattle.history.proofs.OutputLaws.{take-out}
+use Rattle.history.proofs.SlotLaws.{length-most}
+use Rattle.history.proofs.OutputLaws.{first-small, take-out}
 use Rattle.history.proofs.BookLaws.{bookOf, Steady}
 use Rattle.history.proofs.EngineLaws.{step-framer, step-steady}
 use Rattle.history.proofs.Theorem.{Begun, end-steady, end-tied, waiting-are, setup-begun}
@@ -34,18 +34,13 @@ use Rattle.history.proofs.Theorem.{Begun, end-steady, end-tied, waiting
 abbrev pub Drains : Engine → List ℕ → Type 0
 Drains e out = framesTaken (deedsOf e (replicate (length (framesWaiting e)) (Call.take out))) ≡ framesWaiting e
 
--- no slot holds more
-length-most : (q : Queue) (k : ℕ) → k ≤ 7 → lengthAt q k ≤ 1024
-unfolding lengthAt
-length-most q k h = rw (le-leb k 7 h) (omega arith)
-
+-- no slot holds more than 1,024 bytes, so a take with room for them is answered 0
 module _ (c : Limits) (e : Engine) (l : Ledger) (out : List ℕ) (t : Tied c (e .framer) l) (s : soundOf e ≡ true) (h : 1024 ≤ length out) where
   answered-0 : (f : Frame) (fs : List Frame) → waitingIn l ≡ f ∷ fs → stepOf e (Call.take out) .said .answer ≡ 0
   unfolding takenOf takeOf meterOf
   answered-0 f fs q =
       let n : e .framer .meter .waiting ≡ suc (length fs) = rw (t .tie .meter) (ap length q) in
-      let k : e .framer .meter .first ≤ 7 = rw (t .tie .meter) (omega arith) in
-      let m = length-most (e .framer .queue) (e .framer .meter .first) k in
+      let m = length-most (e .framer .queue) (e .framer .meter .first) (first-small c (e .framer) l t) in
       rw (
         s,
         t .sound,

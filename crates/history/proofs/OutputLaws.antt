@@ -50,7 +50,7 @@ module _ (c : Limits) (w : Framer) (l : Ledger) (t : Tied c w l) where
   oldest [] e n = absurd (n (rw (t .tie .meter) (ap length e)))
   oldest (f ∷ fs) e n = rw (t .tie .meter) (ap (take 1) (slots-are c w l (t .tie) (f ∷ fs) e))
 
-  first-small : w .meter .first ≤ 7
+  pub first-small : w .meter .first ≤ 7
   unfolding meterOf
   first-small = rw (t .tie .meter) (omega arith)
 

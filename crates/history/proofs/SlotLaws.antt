@@ -62,6 +62,9 @@ length-at : (q : Queue) (k : ℕ) → k ≤ 7 → lengthAt q k ≡ min (getD (q 
 unfolding lengthAt
 length-at q k h = rw (le-leb k 7 h)
 
+pub length-most : (q : Queue) (k : ℕ) → k ≤ 7 → lengthAt q k ≤ 1024
+length-most q k h = rw (length-at q k h) (omega arith)
+
 frame-at : (q : Queue) (k : ℕ) → Store q → k ≤ 7 → frameAt q k ≡ take (min (getD (q .lengths) k 0) 1024) (drop (k * 1024) (q .bytes))
 frame-at q k s h = rw (length-at q k h) (part-is (q .bytes) (k * 1024) (min (getD (q .lengths) k 0) 1024) (omega (arith, s .bytes)))
 

@@ -99,7 +99,8 @@ updatedAccount byte a = record {
   heard = a .heard;
 }
 
--- a state byte with the frame-bound bits written, and with them clear (rule 4)
+-- a state byte with the frame-bound bits written, and with them clear (rule 4): LIN's are the four low bits, which byte / 16 * 16
+-- has not, FlexRay's is bit 0, which byte / 2 * 2 has not
 abbrev pub written : Bound → ℕ → ℕ
 written none byte = byte
 written (errors bits) byte = byte / 16 * 16 + bits

@@ -28,12 +28,13 @@ pub data Meaning : Type 0 where
   drops : Meaning
   nothing : Meaning
 
--- online 64, error-passive 32, bus-off 16, the counter divided by 8 and cut to 15; offline makes all of it zero
+-- the state byte of a CAN update: online 64, error-passive 32, bus-off 16, the counter divided by 8 and cut to 15; offline makes
+-- all of it zero
 unfoldable pub canState : Bool → Bool → Bool → ℕ → ℕ
 canState online passive busOff counter = pick online (64 + bit passive * 32 + bit busOff * 16 + min (counter / 8) 15) 0
 
--- a frame report carries id and payload, a conflict id and state (rule 5); filters are no matter of the ledger: whether a report
--- passed them, its answer tells
+-- a LIN update gives online only, a FlexRay update online and bits 5 to 0; a frame report carries id and payload, a conflict id and
+-- state (rule 5); filters are no matter of the ledger: whether a report passed them, its answer tells
 abbrev pub meaning : Call → Meaning
 meaning (Call.start source) = starts source
 meaning (Call.stop source) = stops source
