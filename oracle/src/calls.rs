@@ -4,10 +4,9 @@ use crate::engine::Engine;
 use crate::filter::{Filter, Range};
 use crate::frame::{Kind, Time};
 use crate::framer::Limits;
-use crate::play::UNTOUCHED;
 use crate::report::Report;
 use crate::state;
-use crate::text::{bytes, flag, hex, number, number32};
+use crate::text::{bytes, flag, hex, number, number32, output};
 
 const LARGEST_TAKE: u64 = 2_048;
 
@@ -139,8 +138,7 @@ fn filter(name: Word, words: &[Word]) -> Option<Filter> {
 fn take(engine: &mut Engine, name: Word, words: &[Word]) -> Option<String> {
     match (name, words) {
         (b"take", [size]) => {
-            let size = number(size).filter(|&size| size <= LARGEST_TAKE)?;
-            let mut output = vec![UNTOUCHED; size as usize];
+            let mut output = output(size, LARGEST_TAKE)?;
             let taken = numbered(engine.take(&mut output));
             Some(format!("{taken} {}", hex(&output)))
         }

@@ -19,7 +19,7 @@ pub struct Limits {
 }
 
 impl Limits {
-    /// The longest deadline is that of 000's tables, 0.655 s.
+    /// The longest deadline is that of the standard's table, 0.655 s.
     pub fn are_in_range(&self) -> bool {
         (32..=1_024).contains(&self.size) && (1..=8).contains(&self.room) && self.deadline <= 655
     }

@@ -8,8 +8,6 @@ use crate::text::{self, Line};
 use crate::writer;
 
 const LARGEST_REWRITE: u64 = 70_000;
-/// An output's bytes before a call.
-pub const UNTOUCHED: u8 = 0xee;
 
 /// What the calls of one script act on. The reader's calls keep nothing between them.
 #[derive(Default)]
@@ -36,8 +34,8 @@ impl Player {
                 Some(payload(text::number(place)?, &text::bytes(frame)?))
             }
             (b"rewrite", [size, frame]) => {
-                let size = text::number(size).filter(|&size| size <= LARGEST_REWRITE)?;
-                Some(rewrite(size as usize, &text::bytes(frame)?))
+                let output = text::output(size, LARGEST_REWRITE)?;
+                Some(rewrite(output, &text::bytes(frame)?))
             }
             _ => calls::call(&mut self.engine, name, rest),
         }
@@ -120,8 +118,7 @@ fn payload(place: u64, frame: &[u8]) -> String {
     }
 }
 
-fn rewrite(size: usize, frame: &[u8]) -> String {
-    let mut output = vec![UNTOUCHED; size];
+fn rewrite(mut output: Vec<u8>, frame: &[u8]) -> String {
     let answer = writer::rewrite(frame, &mut output);
     format!("{answer} {}", text::hex(&output))
 }

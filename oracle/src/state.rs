@@ -4,7 +4,7 @@ pub const LOST: u8 = 0x80;
 const ONLINE: u8 = 0x40;
 const PASSIVE: u8 = 0x20;
 const BUS_OFF: u8 = 0x10;
-/// The transmission conflict is bit 0 of FlexRay's state table (000, table 7.5).
+/// The transmission conflict is bit 0 of FlexRay's state table (Specification of Bus Mirroring, table 7.5).
 pub const CONFLICT: u8 = 0x01;
 
 /// Neither byte ever holds the bit for lost frames, which belongs to no source.

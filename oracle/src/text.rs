@@ -2,6 +2,8 @@
 
 /// A longer line is a bad line, whatever it holds.
 pub const LONGEST_LINE: usize = 200_000;
+/// An output's bytes before a call.
+const UNTOUCHED: u8 = 0xee;
 
 /// What one line of a script asks for.
 #[derive(Debug, PartialEq)]
@@ -76,6 +78,12 @@ pub fn bytes(word: &[u8]) -> Option<Vec<u8>> {
         .collect()
 }
 
+/// An output of as many bytes as the word says, at most so many, none of them touched yet.
+pub fn output(size: &[u8], largest: u64) -> Option<Vec<u8>> {
+    let size = number(size).filter(|&size| size <= largest)?;
+    Some(vec![UNTOUCHED; size as usize])
+}
+
 pub fn hex(bytes: &[u8]) -> String {
     if bytes.is_empty() {
         return "-".to_string();
@@ -117,6 +125,14 @@ mod tests {
         assert_eq!(split(" new"), Line::Words(vec![b"", b"new"]));
         assert_eq!(split("a  b"), Line::Words(vec![b"a".as_slice(), b"", b"b"]));
         assert_eq!(split("a\tb\r"), Line::Words(vec![b"a\tb\r".as_slice()]));
+    }
+
+    #[test]
+    fn an_output_is_as_long_as_its_word_says() {
+        assert_eq!(output(b"0", 2), Some(vec![]));
+        assert_eq!(output(b"2", 2), Some(vec![0xee; 2]));
+        assert_eq!(output(b"3", 2), None);
+        assert_eq!(output(b"x", 2), None);
     }
 
     #[test]

@@ -1,4 +1,4 @@
--- Filters (01, "Filters"; 000, 7.2.4).
+-- Filters (docs/RULES.md, "Filters"; Specification of Bus Mirroring, 7.2.4).
 use Prim.Native.Nat.{ℕ, _%_}
 use mathlib.Core.Bool.{Bool, true, false, _&&_}
 use lib.Dec.{leb, eqb}

@@ -1,4 +1,4 @@
--- Reports (01, "Engine answer numbers", "Frame bytes", rules 4 and 5).
+-- Reports (docs/RULES.md, "Answers", "Frame bytes", rules 4 and 5).
 use Prim.Native.Nat.{ℕ, _+_, _%_}
 use mathlib.Core.Bool.{Bool, true, false, not, _&&_, _||_}
 use lib.Dec.{leb, ltb}

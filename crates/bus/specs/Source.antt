@@ -1,4 +1,4 @@
--- A source (01, "What the engine does", "Filters", rules 4 and 6).
+-- A source (docs/RULES.md, "The engine", "Filters", rules 4 and 6).
 use Prim.Native.Nat.{ℕ, suc}
 use mathlib.Core.Bool.{Bool, true, false, not, _&&_, _||_}
 use mathlib.Core.List.{List, [], _∷_}

@@ -1,4 +1,4 @@
--- State updates (01, "Frame bytes", State; 000, 7.4.2.2.7).
+-- State updates (docs/RULES.md, "Frame bytes"; Specification of Bus Mirroring, 7.4.2.2.7).
 use Prim.Native.Nat.{ℕ, _+_, _*_, _/_, _%_, min}
 use mathlib.Core.Bool.{Bool, true, not, _&&_}
 use lib.Dec.{leb, eqb}

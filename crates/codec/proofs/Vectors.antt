@@ -61,7 +61,7 @@ flexray-back : readIdent (0xcc ∷ 0x03 ∷ 0x3f ∷ []) 0 Kind.FlexRay true ≡
 unfolding readIdent readFlexray flexrayIdent partOf fits flexrayRange
 flexray-back = refl
 
--- P2 to P5 of 01 on the measure
+-- P2 to P5 (docs/RULES.md, "Worked examples") on the measure
 under-a-tick : elapsed 0 9999 ≡ Elapsed.Ticks (record { 0 = 0 })
 unfolding elapsed ticksOf
 under-a-tick = refl

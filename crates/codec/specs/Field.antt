@@ -1,5 +1,5 @@
 -- What reading the fields of an item finds, left to right, missing bytes before a wrong value
--- (01, "Reading a frame").
+-- (docs/RULES.md, "Reading a frame").
 use Prim.Native.Nat.{ℕ, _+_, _*_, _/_, _%_}
 use mathlib.Core.Bool.{Bool}
 use mathlib.Core.List.{List, []}

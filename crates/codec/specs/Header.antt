@@ -1,4 +1,4 @@
--- The header of a frame (01, "Frame bytes"; 000, 7.4.2.1), and its refusals in their order.
+-- The header of a frame (docs/RULES.md, "Frame bytes"; Specification of Bus Mirroring, 7.4.2.1), and its refusals in their order.
 use Prim.Native.Nat.{ℕ, _+_, _-_}
 use mathlib.Core.List.{List, [], _∷_, _++_}
 use lib.ListN.{length, getD}

@@ -1,4 +1,4 @@
--- Frame ids on the wire (01, "Frame bytes"; 000, 7.4.2.2.5 and 7.4.2.2.8).
+-- Frame ids on the wire (docs/RULES.md, "Frame bytes"; Specification of Bus Mirroring, 7.4.2.2.5 and 7.4.2.2.8).
 use Prim.Native.Nat.{ℕ, _+_, _*_, _/_, _%_, _^_}
 use mathlib.Core.Bool.{Bool, true, false, _&&_, _||_}
 use mathlib.Core.List.{List, [], _∷_}

@@ -1,4 +1,4 @@
--- An item as bytes (01, "Frame bytes"; 000, 7.4.2.2).
+-- An item as bytes (docs/RULES.md, "Frame bytes"; Specification of Bus Mirroring, 7.4.2.2).
 use Prim.Native.Nat.{ℕ, _+_, _*_, _/_, _%_}
 use mathlib.Core.Bool.{Bool, true, false, _&&_, _||_}
 use mathlib.Core.List.{List, [], _∷_, _++_}

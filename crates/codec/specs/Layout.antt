@@ -1,4 +1,4 @@
--- A frame: the header, then the items one after the other (01, "Frame bytes"; 000, 7.4.2).
+-- A frame: the header, then the items one after the other (docs/RULES.md, "Frame bytes"; Specification of Bus Mirroring, 7.4.2).
 use Prim.Native.Nat.{ℕ, _+_, _^_, _<_, _≤_}
 use mathlib.Core.Path.{_≡_}
 use mathlib.Core.Bool.{true}

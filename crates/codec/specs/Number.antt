@@ -1,4 +1,4 @@
--- Big-endian numbers (000, 7.4.2), bytes written over a list, and bytes read from one.
+-- Big-endian numbers (Specification of Bus Mirroring, 7.4.2), bytes written over a list, and bytes read from one.
 use Prim.Native.Nat.{ℕ, zero, suc, _+_, _*_, _/_, _%_, _^_, _<_, _≤_}
 use mathlib.Core.Path.{_≡_}
 use mathlib.Core.Bool.{Bool, true, false}

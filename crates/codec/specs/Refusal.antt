@@ -1,4 +1,4 @@
--- The reader's refusals by the paper's numbers (01, "Reading a frame").
+-- The reader's refusals by their numbers (docs/RULES.md, "Reading a frame").
 use Prim.Native.Nat.{ℕ}
 use Rattle.codec.specs.declared.refusal.Refusal.{Refusal}
 use Rattle.codec.specs.declared.refusal.Refusal.the-variants as Refusal

@@ -1,4 +1,4 @@
--- Times in plain naturals: a count of nanoseconds (01, "What the engine does" and rules 1, 2 and 6).
+-- Times in plain naturals: a count of nanoseconds (docs/RULES.md, "The engine", rules 1, 2 and 6).
 use Prim.Native.Nat.{ℕ, _+_, _-_, _*_, _/_, _%_, min}
 use mathlib.Core.Bool.{Bool, _&&_}
 use lib.Dec.{ltb, leb}

@@ -1,4 +1,4 @@
-// Why a frame, or a place in it, is refused (01, "Reading a frame").
+// Why a frame, or a place in it, is refused (docs/RULES.md, "Reading a frame").
 ghost use mathlib.Core.Path.{_≡_};
 ghost use Rattle.codec.specs.Refusal.{numberOf};
 
@@ -16,7 +16,7 @@ pub enum Refusal {
     Place,
 }
 
-// The paper's number.
+// Its number (docs/RULES.md, "Reading a frame").
 pub fn number_of(r: Refusal) -> u8
     ensures { λ n. ⌜ n ≡ numberOf r ⌝ }
 {

@@ -1,4 +1,4 @@
--- The frame being filled, and the queue behind it (01, rules 1 to 3, 6 and 7).
+-- The frame being filled, and the queue behind it (rules 1 to 3, 6 and 7).
 use Prim.Native.Nat.{ℕ, _-_}
 use mathlib.Core.Bool.{Bool, true, not, _&&_}
 use mathlib.Core.List.{List}

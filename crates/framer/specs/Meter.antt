@@ -1,4 +1,4 @@
--- The framer's numbers, and what is decided from them alone (01, rules 1 to 4 and 6).
+-- The framer's numbers, and what is decided from them alone (rules 1 to 4 and 6).
 use Prim.Native.Nat.{ℕ, _+_, _-_, _%_, _≤_, min}
 use mathlib.Core.Path.{_≡_}
 use mathlib.Core.Bool.{Bool, true, false, not, _&&_, _||_}
@@ -18,7 +18,8 @@ use Rattle.codec.specs.declared.item.Item.{Item}
 use Rattle.framer.specs.declared.offer.Offer.{Offer}
 use Rattle.framer.specs.declared.meter.Meter.{Meter}
 
--- frame size F 32 to 1,024, queue room Q 1 to 8, deadline D 0 for none, else 1 to 655 ms (000, chapter 10)
+-- frame size F 32 to 1,024, queue room Q 1 to 8, deadline D 0 for none, else 1 to 655 ms
+-- (Specification of Bus Mirroring, chapter 10, MirrorDestTransmissionDeadline)
 unfoldable pub limitsOk : ℕ → ℕ → ℕ → Bool
 limitsOk size room deadline = leb 32 size && leb size 1024 && leb 1 room && leb room 8 && leb deadline 655
 

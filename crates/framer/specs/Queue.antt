@@ -1,4 +1,4 @@
--- Closed frames that wait (01, rules 3 and 7).
+-- Closed frames that wait (rules 3 and 7).
 use Prim.Native.Nat.{ℕ, _*_, min}
 use mathlib.Core.List.{List}
 use mathlib.Core.Bool.{_&&_}

@@ -1,4 +1,4 @@
--- What each source has to say: the first half of the ledger (01, rules 4 to 6).
+-- What each source has to say: the first half of the ledger (rules 4 to 6).
 use Prim.Native.Nat.{ℕ, _+_, _*_, _/_}
 use mathlib.Core.Bool.{Bool, true, false, not, _&&_, _||_}
 use mathlib.Core.List.{List, [], _∷_, _++_, map}
@@ -23,7 +23,7 @@ pub record Event : Type 0 where
   pub state : ℕ
   pub due : Bool
 
--- what 01 says of a source, filters apart. `shown` is the byte last shown, where `told` says that one was; `heard`, that a report
+-- what the rules say of a source, filters apart. `shown` is the byte last shown, where `told` says that one was; `heard`, that a report
 -- was accepted since the last tick
 pub record Account : Type 0 where
   pub kind : Kind

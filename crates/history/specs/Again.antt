@@ -1,4 +1,4 @@
--- Offline and switch, each of which begins a new history (01, "What the engine does").
+-- Offline and switch, each of which begins a new history (docs/RULES.md, "The engine").
 use mathlib.Core.Logic.{_⊎_}
 use mathlib.Core.List.{List, [], _∷_}
 use Rattle.codec.specs.Choice.{pick}

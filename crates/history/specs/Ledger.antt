@@ -1,4 +1,4 @@
--- The ledger of frames: it knows no bytes and never forgets (01, rules 1 to 4, 6 and 7).
+-- The ledger of frames: it knows no bytes and never forgets (rules 1 to 4, 6 and 7).
 use Prim.Native.Nat.{ℕ, _+_, _-_, _*_, _/_, _%_, min}
 use mathlib.Core.Bool.{Bool, true, false, not, _&&_, _||_}
 use mathlib.Core.List.{List, [], _∷_, _++_}

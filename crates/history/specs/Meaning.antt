@@ -1,4 +1,4 @@
--- What each call of the engine says to the ledger, if it is answered 0 (01, "Frame bytes", rules 4 to 7).
+-- What each call of the engine says to the ledger, if it is answered 0 (docs/RULES.md, "Frame bytes", rules 4 to 7).
 use Prim.Native.Nat.{ℕ, _+_, _*_, _/_, min}
 use mathlib.Core.Bool.{Bool, true, false}
 use mathlib.Core.List.{List, []}

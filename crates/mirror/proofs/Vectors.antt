@@ -1,4 +1,4 @@
--- The table of P1 to P9 of 01 holds: every row is computed. Assumes nothing.
+-- The table of P1 to P9 holds: every row is computed. Assumes nothing.
 use mathlib.Core.Path.{refl}
 use Rattle.codec.specs.Number.{fits}
 use Rattle.codec.specs.Time.{ticksOf, elapsed, overdueOf}

@@ -1,4 +1,4 @@
--- The engine's own record, and what every call has in common (01, "What the engine does", "Engine answer numbers").
+-- The engine's own record, and what every call has in common (docs/RULES.md, "The engine", "Answers").
 use Prim.Native.Nat.{ℕ}
 use mathlib.Core.Bool.{Bool, false, _&&_}
 use mathlib.Core.List.{List, []}

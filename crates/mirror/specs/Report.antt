@@ -1,4 +1,4 @@
--- Reports (01, rules 1 to 5).
+-- Reports (rules 1 to 5).
 use Prim.Native.Nat.{ℕ}
 use mathlib.Core.List.{List}
 use lib.ListN.{length}

@@ -1,4 +1,4 @@
--- Setup, switch and offline (01, "What the engine does").
+-- Setup, switch and offline (docs/RULES.md, "The engine").
 use Prim.Native.Nat.{ℕ, suc, _/_, _%_}
 use mathlib.Core.Bool.{Bool, true, false, not, _&&_, _||_}
 use mathlib.Core.List.{List, [], _∷_, map}

@@ -1,4 +1,4 @@
--- Calls that change one source alone (01, "Filters", rule 4).
+-- Calls that change one source alone (docs/RULES.md, "Filters", rule 4).
 use Prim.Native.Nat.{ℕ}
 use lib.ListN.{set}
 use lib.Dec.{eqb}

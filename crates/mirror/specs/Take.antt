@@ -1,4 +1,4 @@
--- Taking (01, rule 7).
+-- Taking (rule 7).
 use Prim.Native.Nat.{ℕ}
 use mathlib.Core.List.{List}
 use Rattle.codec.specs.Choice.{pick}

@@ -1,4 +1,4 @@
--- A tick (01, rule 6).
+-- A tick (rule 6).
 use Prim.Native.Nat.{ℕ, zero, suc}
 use mathlib.Core.Bool.{not}
 use mathlib.Core.List.{[]}

@@ -1,4 +1,4 @@
--- The rows P1 to P9 of 01, "Checked by proof or by a run": each is a script of calls from the engine before setup, and all
+-- The rows P1 to P9 (docs/RULES.md, "Worked examples"): each is a script of calls from the engine before setup, and all
 -- that they say, one answer for each call. One statement about the definitions holds of the whole table.
 use Prim.Native.Nat.{ℕ}
 use mathlib.Core.Path.{_≡_}

@@ -1,4 +1,4 @@
--- The reader's answers by the paper's numbers: 0 for done, 12 for an output too short, 20 to 30 for the refusals.
+-- The reader's answers by their numbers: 0 for done, 12 for an output too short, 20 to 30 for the refusals.
 -- Other numbers beside a refusal are 0.
 use Prim.Native.Nat.{ℕ}
 use Rattle.codec.specs.Refusal.{numberOf}

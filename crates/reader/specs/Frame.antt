@@ -1,4 +1,4 @@
--- Reading a frame (01, "Reading a frame"): the verdict on the whole, then header, items and payloads.
+-- Reading a frame (docs/RULES.md, "Reading a frame"): the verdict on the whole, then header, items and payloads.
 use Prim.Native.Nat.{ℕ, zero, suc, _-_}
 use mathlib.Core.Path.{_≡_}
 use mathlib.Core.Bool.{Bool, false, _||_}

@@ -1,4 +1,4 @@
-// The paper's numbers for the reader's answers, and what stands beside them.
+// The numbers of the reader's answers, and what stands beside them.
 use crate::copy::Rewritten;
 use crate::frame::Judged;
 use crate::place::Stepped;

@@ -60,7 +60,7 @@ pub fn switch(size: u64, room: u64, deadline: u64) -> Draft {
     Draft::new("switch", limits(size, room, deadline))
 }
 
-/// 65,535 ms would be a deadline by 01 alone, which 000's table takes back.
+/// 65,535 ms fits the 16 bits of a deadline; the standard's table ends at 0.655 s.
 fn limits(size: u64, room: u64, deadline: u64) -> Vec<Word> {
     let deadlines = [0, 1, 655, 656, 65_535, 65_536, 1 << 32, WIDE];
     vec![

@@ -1,0 +1,3 @@
+-- Sources and framer together: every call, and any list of calls.
+pub mod EngineLaws
+pub mod RunLaws

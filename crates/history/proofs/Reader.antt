@@ -1,0 +1,2 @@
+-- What the reader makes of the ledger's frames.
+pub mod ReadLaws

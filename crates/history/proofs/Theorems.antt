@@ -1,0 +1,8 @@
+-- The statements: `history`, and what stands beside it.
+pub mod Theorem
+pub mod Lossless
+pub mod Drain
+pub mod ResetLaws
+pub mod Again
+pub mod Examples
+pub mod Witness
