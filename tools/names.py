@@ -1,7 +1,7 @@
 """The names in the text of a crate, each with what it says and what stands behind it.
 
 Two readers, one for each language: `antt_names` for specs/ and proofs/, `rattle_names` for src/. Both
-compare by words: white space and comments count for nothing. Text that belongs to no name is an error,
+give words: white space and comments count for nothing. Text that belongs to no name is an error,
 so that nothing can change unseen.
 """
 import re
