@@ -23,6 +23,7 @@ use Rattle.bus.specs.Filter.{matches, isFree, sameKind}
 use Rattle.bus.specs.Source.{passes, freeAt, addCause}
 use Rattle.bus.specs.Report.{tooBig, earlyCause, lateCause, reportCause}
 use Rattle.bus.specs.Update.{updateCause}
+use Rattle.bus.specs.declared.filter.Filter.{Filter}
 use Rattle.bus.specs.declared.filter.Place.{Place}
 use Rattle.bus.specs.declared.filter.Addition.{Addition}
 use Rattle.bus.specs.declared.source.Source.{Source}
@@ -49,6 +50,15 @@ module _ (ps : List Place) (i : ℕ) (d : Place) (h : i < length ps) where
 
 pub passes-end : (ps : List Place) (i : ℕ) (id : Ident) → length ps ≤ i → passes (drop i ps) id ≡ false
 passes-end ps i id h = rw (drop-of-length-le ps h)
+
+-- ids that each filter treats alike, and ids that none matches
+pub passes-alike : (ps : List Place) (a b : Ident) → ((f : Filter) → matches f a ≡ matches f b) → passes ps a ≡ passes ps b
+passes-alike [] a b e = refl
+passes-alike (p ∷ ps) a b e = rw (e (p .filter), passes-alike ps a b e)
+
+pub passes-none : (ps : List Place) (id : Ident) → ((f : Filter) → matches f id ≡ false) → passes ps id ≡ false
+passes-none [] id e = refl
+passes-none (p ∷ ps) id e = rw (e (p .filter), passes-none ps id e)
 
 pub free-end : (ps : List Place) (i : ℕ) → length ps ≤ i → i + freeAt (drop i ps) ≡ i
 free-end ps i h = rw (drop-of-length-le ps h) (omega arith)

@@ -2,7 +2,11 @@
 use codec::ident::Ident;
 use codec::ident::Kind;
 ghost use mathlib.Core.Path.{_≡_};
-ghost use Prim.Native.Nat.{_%_};
+ghost use mathlib.Core.Bool.{false, _&&_};
+ghost use Prim.Native.Nat.{ℕ, _%_};
+ghost use lib.Dec.{leb};
+ghost use Rattle.codec.specs.declared.ident.Ident.the-variants as Ident;
+ghost use Rattle.bus.specs.Source.{passes};
 ghost use Rattle.bus.specs.Filter.{keyed, slotted, matches, isFree, sameKind, canMask, canRange, linMask, linRange, slotsOf, cycled};
 
 pub enum Filter {
@@ -44,13 +48,45 @@ pub fn low16(x: u32) -> u16
     (x & 65535) as u16
 }
 
-fn key_matches(f: Filter, key: u32) -> bool
-    ensures { λ r. ⌜ r ≡ keyed f key ⌝ }
+// A short cut: where it says no, no key matches, so that a free place costs one test. This and one more test of the
+// form cost less than one test of all four, which is a jump through a table.
+fn asks_for_key(f: Filter) -> bool
+    ensures { λ r. ⌜ (r ≡ false → (key : ℕ) → keyed f key ≡ false) ⌝ }
 {
     match f {
         Filter::Free => false,
+        Filter::Mask { mask: _, code: _ } => true,
+        Filter::Range { lower: _, upper: _ } => true,
+        Filter::Slots {
+            low: _,
+            high: _,
+            low_cycle: _,
+            high_cycle: _,
+            repetition: _,
+        } => false,
+    }
+}
+
+// The upper bound is tested where the lower one holds.
+fn within(low: u32, high: u32, x: u32) -> bool
+    ensures { λ r. ⌜ r ≡ (leb low x && leb x high) ⌝ }
+{
+    if x < low {
+        return false;
+    }
+    x <= high
+}
+
+fn key_matches(f: Filter, key: u32) -> bool
+    ensures { λ r. ⌜ r ≡ keyed f key ⌝ }
+{
+    if !asks_for_key(f) {
+        return false;
+    }
+    match f {
+        Filter::Free => false,
         Filter::Mask { mask, code } => key & mask == code,
-        Filter::Range { lower, upper } => (lower <= key) & (key <= upper),
+        Filter::Range { lower, upper } => within(lower, upper, key),
         Filter::Slots {
             low: _,
             high: _,
@@ -69,9 +105,10 @@ fn cycle_matches(cycle: u8, low: u8, high: u8, repetition: u8) -> bool
         return false;
     }
     let c = cycle % repetition;
-    (low <= c) & (c <= high)
+    within(low as u32, high as u32, c as u32)
 }
 
+// The cycle comes last: its remainder is a division.
 fn slot_matches(f: Filter, slot: u16, cycle: u8) -> bool
     ensures { λ r. ⌜ r ≡ slotted f slot cycle ⌝ }
 {
@@ -85,12 +122,48 @@ fn slot_matches(f: Filter, slot: u16, cycle: u8) -> bool
             low_cycle,
             high_cycle,
             repetition,
-        } => (low <= slot)
-            & (slot <= high)
-            & cycle_matches(cycle, low_cycle, high_cycle, repetition),
+        } => {
+            if within(low as u32, high as u32, slot as u32) {
+                return cycle_matches(cycle, low_cycle, high_cycle, repetition);
+            }
+            false
+        }
     }
 }
 
+// Whether one of a source's places matches a key: that of a CAN id, or a LIN id's, which filters treat alike.
+pub(crate) fn key_passes(places: [Place; 8], key: u32) -> bool
+    ensures { λ r. ⌜ r ≡ passes places (Ident.Can key) ⌝ }
+{
+    let mut i: usize = 0;
+    while i < 8 {
+        let place = places[i];
+        let filter = place.filter;
+        if key_matches(filter, key) {
+            return true;
+        }
+        i += 1;
+    }
+    false
+}
+
+// Whether one of a source's places matches a slot and a cycle, on whatever channels.
+pub(crate) fn slot_passes(places: [Place; 8], slot: u16, cycle: u8) -> bool
+    ensures { λ r. ⌜ r ≡ passes places (Ident.FlexRay 0 slot cycle) ⌝ }
+{
+    let mut i: usize = 0;
+    while i < 8 {
+        let place = places[i];
+        let filter = place.filter;
+        if slot_matches(filter, slot, cycle) {
+            return true;
+        }
+        i += 1;
+    }
+    false
+}
+
+// One filter's answer. A walk over places asks the functions above, since it knows the kind of id.
 pub fn filter_matches(f: Filter, id: Ident) -> bool
     ensures { λ r. ⌜ r ≡ matches f id ⌝ }
 {

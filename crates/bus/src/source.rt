@@ -77,19 +77,23 @@ impl Source {
         self
     }
 
+    // The kind of id decides once what its places are asked. Each of the two walks has one call here: with two, the
+    // compiler would keep a walk apart and copy the source for it.
     pub fn passes(self, id: Ident) -> bool
         ensures { λ r. ⌜ r ≡ passes (self .places) id ⌝ }
     {
-        let mut i: usize = 0;
-        while i < 8 {
-            let place = self.places[i];
-            let filter = place.filter;
-            if crate::filter::filter_matches(filter, id) {
-                return true;
-            }
-            i += 1;
-        }
-        false
+        let places = self.places;
+        let key = match id {
+            Ident::Can(key) => key,
+            Ident::Lin(pid) => (pid & 63) as u32,
+            Ident::FlexRay {
+                channels: _,
+                slot,
+                cycle,
+            } => return crate::filter::slot_passes(places, slot, cycle),
+            Ident::Bare(_) => return false,
+        };
+        crate::filter::key_passes(places, key)
     }
 
     // The lowest free place, or 8.

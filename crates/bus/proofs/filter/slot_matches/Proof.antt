@@ -1,4 +1,4 @@
-use mathlib.Core.Path.{sym, ap}
+use mathlib.Core.Path.{sym, ap, _∙_}
 use Rattle.bus.specs.Filter.{slotted}
 use borrow.Author.Needs.{needs}
 use Rattle.bus.proofs.filter.slot_matches.Statement.{statement}
@@ -10,8 +10,12 @@ slot-matches-spec = tie.close (tie.spec
     (λ c. search needs)
     (λ c. search needs)
     (λ c. search needs)
+    (λ c. search needs)
+    (λ c. search needs)
     (λ c κs. search needs)
+    (λ c κs. search needs)
+    (λ c. rw (ap (λ f. slotted f (c .before .before .before .before .before .before .args .slot) (c .before .before .before .before .before .before .args .cycle)) (c .before .before .before .before .f .given .1), sym (c .before .before .within .ensures) ∙ c .before .if1 .taken) (c .cycle-matches .ensures))
     (λ c. search needs)
     (λ c. search needs)
     (λ c. search needs)
-    (λ c. rw (c .cycle-matches .ensures) (sym (ap (λ f. slotted f (c .before .before .before .before .args .slot) (c .before .before .before .before .args .cycle)) (c .before .before .f .given .1)))))
+    (λ c. rw (ap (λ f. slotted f (c .before .before .before .before .before .args .slot) (c .before .before .before .before .before .args .cycle)) (c .before .before .before .f .given .1), sym (c .before .within .ensures) ∙ c .if1 .left)))

@@ -1,35 +1,29 @@
-use Prim.Native.Nat.{_≤_, _<_, _-_}
-use mathlib.Core.Path.{_≡_, sym, _∙_}
-use lib.ListN.{length, drop}
+use mathlib.Core.Path.{refl, sym, ap, _∙_}
+use mathlib.Core.Logic.{⊎-elim}
+use lib.Bits.{and-mask}
+use Rattle.codec.specs.declared.ident.Ident.the-variants as Ident
 use Rattle.bus.specs.Source.{passes}
-use Rattle.bus.proofs.BusLaws.{passes-hit, passes-miss, passes-end, length-mapped}
+use Rattle.bus.proofs.BusLaws.{passes-alike, passes-none}
 use borrow.Author.Needs.{needs}
 use native.Mathlib.Omega.{arith}
 use Rattle.bus.proofs.source.Source.passes.Statement.{statement}
 use Rattle.bus.proofs.source.Source.passes.Tie as tie
 
-abbrev Inv-loop : tie.InvT-loop
-Inv-loop id self i₀ i = (i ≤ 8) × (passes (self .places) id ≡ passes (drop i (self .places)) id)
-
-abbrev μ-loop : tie.MeasureT-loop
-μ-loop id self i₀ i = 8 - i
-
-len : (c : tie.At-loop Inv-loop μ-loop) → length (c .before .args .t1 .places) ≡ 8
-len c = search (needs, length-mapped)
-
-in-range : (c : tie.In-loop Inv-loop μ-loop) → c .before .loop .i < length (c .before .before .args .t1 .places)
-in-range c = omega (arith, len (c .before))
-
 pub passes-spec : {M : Type 1} → statement M
 passes-spec = tie.close (tie.spec
-    Inv-loop
-    μ-loop
     (λ c. search needs)
     (λ c. search needs)
+    (λ c. omega (arith, and-mask (c .before .id2 .given .0 .0) 6))
     (λ c. search needs)
     (λ c κs. search needs)
-    (λ c. sym (c .before .before .before .before .loop .inv .1 ∙ passes-hit _ _ _ (in-range (c .before .before .before)) _ (sym (c .before .filter-matches .ensures) ∙ c .if1 .taken)))
+    (λ c. let ps = c .before .before .before .before .before .args .self .places in
+    c .slot-passes .ensures ∙ passes-alike ps _ _ (λ f. refl) ∙ sym (ap (passes ps) (c .before .before .id3 .given .1)))
     (λ c. search needs)
-    (λ c. search needs)
-    (λ c. (search needs, c .before .before .before .before .loop .inv .1 ∙ passes-miss _ _ _ (in-range (c .before .before .before)) _ (sym (c .before .filter-matches .ensures) ∙ c .if1 .left)))
-    (λ c. sym (c .before .loop .inv .1 ∙ passes-end (c .before .before .args .t1 .places) (c .before .loop .i) _ (omega (arith, len (c .before))))))
+    (λ c. let ps = c .before .before .before .args .self .places in
+    sym (ap (passes ps) (c .enum-told .given .1) ∙ passes-none ps _ (λ f. refl)))
+    (λ c κs. search needs)
+    (λ c. let ps = c .before .before .before .args .self .places in
+    c .key-passes .ensures ∙ ⊎-elim
+    (λ w. ap (λ k. passes ps (Ident.Can k)) (w .3) ∙ sym (ap (passes ps) (w .1 .given .1)))
+    (λ w. ap (λ k. passes ps (Ident.Can k)) (w .3 ∙ and-mask _ 6) ∙ passes-alike ps _ _ (λ f. refl) ∙ sym (ap (passes ps) (w .1 .given .1)))
+    (c .before .match .came)))
