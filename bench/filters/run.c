@@ -38,6 +38,8 @@ static void measure(uint32_t form, uint64_t free, uint32_t hit, uint64_t n) {
 }
 
 int main(int words, char **word) {
+    if (words != 2)
+        return 2;
     // first, last, none, and the last place with seven free ones before it
     static const uint32_t hits[4] = {0, 7, 8, 7}, frees[4] = {0, 0, 0, 7};
     for (uint32_t form = 0; form < 5; form++)
@@ -48,7 +50,7 @@ int main(int words, char **word) {
                 return 1;
             }
             printf("%u %d", form, k);
-            if (words == 2 && !strcmp(word[1], "count"))
+            if (!strcmp(word[1], "count"))
                 count(form, frees[k], hits[k]);
             else
                 measure(form, frees[k], hits[k], strtoull(word[1], 0, 10));
