@@ -1,5 +1,6 @@
 //! How often a script gets each answer, so that a stored script can be held to a coverage.
 
+use crate::count_pids::Pids;
 use crate::frame::{Header, Item, Kind};
 use crate::play::Player;
 use crate::state::LOST;
@@ -7,12 +8,13 @@ use crate::{reader, text};
 use std::collections::BTreeMap;
 
 /// `lines N`, `skipped N`, `bad N`, then `CALL ANSWER N` for each call and answer that occurred,
-/// then `taken WHAT N` for what the taken frames held.
+/// then `taken WHAT N` for what the taken frames held, then the lines about PIDs.
 pub fn report(script: &[u8]) -> Vec<u8> {
     let mut player = Player::default();
     let (mut lines, mut skipped, mut bad) = (0usize, 0usize, 0usize);
     let mut counts: BTreeMap<(String, u32), usize> = BTreeMap::new();
     let mut taken = Taken::default();
+    let mut pids = Pids::default();
     for (i, line) in text::lines(script).enumerate() {
         lines += 1;
         let Some(answer) = player.line(i + 1, line) else {
@@ -24,6 +26,7 @@ pub fn report(script: &[u8]) -> Vec<u8> {
         match first.parse() {
             Ok(number) => {
                 taken.look(&call, &answer);
+                pids.look(line, number, player.engine());
                 *counts.entry((call, number)).or_default() += 1;
             }
             Err(_) => bad += 1,
@@ -36,6 +39,7 @@ pub fn report(script: &[u8]) -> Vec<u8> {
     for (what, count) in taken.counts {
         out.push_str(&format!("taken {what} {count}\n"));
     }
+    out.push_str(&pids.report());
     out.into_bytes()
 }
 
@@ -125,7 +129,7 @@ mod tests {
     #[test]
     fn counts_what_was_taken() {
         let script =
-            b"setup 32 1 1 2 0\nstart 0\nlin-mask 0 0 0\nlin 0 1 0 0 1 -\ntick 2 0\ntake 32\n";
+            b"setup 32 1 1 2 0\nstart 0\nlin-mask 0 0 0\nlin 0 1 0 0x80 1 -\ntick 2 0\ntake 32\n";
         let counts = String::from_utf8(report(script)).unwrap();
         for line in [
             "frames 1",

@@ -1,6 +1,7 @@
 use super::*;
 use crate::filter::Range;
 use crate::frame::LAST_SECOND;
+use crate::pid;
 use crate::state;
 
 const CAN: (u32, u32) = (1, 5);
@@ -145,7 +146,7 @@ fn p8_lin_key_and_counters() {
     engine.add_filter(0, Filter::LinRange(only_61)).unwrap();
     lin(&mut engine, 0);
     assert_eq!(items(&engine)[..6], [0, 0, 0xe2, 6, 0, 0x7d]);
-    let other = Report::lin(0x7e, 0, &[]);
+    let other = Report::lin(0xfe, 0, &[]);
     assert_eq!(engine.report(0, after(0), &other), Err(1));
     for (counter, low) in [(127, 15), (128, 15), (255, 15), (7, 0)] {
         let mut engine = running(limits(64, 1, 0), &[CAN]);
@@ -287,6 +288,67 @@ fn the_order_of_a_reports_causes() {
     assert_eq!(engine.report(0, good, &short), Err(1));
     engine.add_filter(0, match_all(Kind::Can)).unwrap();
     assert_eq!(engine.report(0, good, &short), Err(8));
+}
+
+#[test]
+fn wrong_parity_has_the_place_of_answer_5() {
+    let mut engine = Engine::default();
+    engine.setup(limits(32, 1, 0), &[CAN, LIN]).unwrap();
+    let nine = [0; 9];
+    let (good, bad) = (after(0), after(1_000_000_000));
+    let wrong = Report::lin(0x3d, 0, &nine);
+    assert_eq!(engine.report(2, bad, &wrong), Err(7));
+    assert_eq!(engine.report(2, good, &wrong), Err(2));
+    assert_eq!(engine.report(0, good, &wrong), Err(4));
+    assert_eq!(engine.report(1, good, &wrong), Err(3));
+    engine.start(1).unwrap();
+    assert_eq!(engine.report(1, good, &wrong), Err(5));
+    assert_eq!(engine.report(1, good, &Report::lin(0x7d, 0, &nine)), Err(6));
+    let (wrong, right) = (Report::lin(0x3d, 0, &[]), Report::lin(0x7d, 0, &[]));
+    assert_eq!(engine.report(1, good, &wrong), Err(5));
+    assert_eq!(engine.report(1, good, &right), Err(1));
+    engine.add_filter(1, match_all(Kind::Lin)).unwrap();
+    let before = engine.clone();
+    assert_eq!(engine.report(1, good, &wrong), Err(5));
+    assert_eq!(engine, before);
+    assert_eq!(engine.report(1, good, &right), Ok(()));
+}
+
+#[test]
+fn of_all_pids_the_right_ones_enter() {
+    let mut engine = running(limits(1_024, 1, 0), &[LIN]);
+    let mut entered = Vec::new();
+    for pid in 0..=255 {
+        let report = Report::lin(pid, 0, &[]);
+        match engine.report(0, after(0), &report) {
+            Ok(()) => entered.push(pid as u8),
+            Err(cause) => assert_eq!(cause, 5, "{pid:#x}"),
+        }
+    }
+    let right: Vec<u8> = (0..=255).filter(|&pid| pid::is_right(pid)).collect();
+    assert_eq!(entered, right);
+}
+
+#[test]
+fn a_pid_is_not_cut_to_a_byte() {
+    let mut engine = running(limits(64, 1, 0), &[LIN]);
+    for pid in [
+        0xff,
+        0x100,
+        0x180,
+        0x1c1,
+        0x1fe,
+        0x1_0080,
+        0xffff_ff80,
+        u32::MAX,
+    ] {
+        let report = Report::lin(pid, 0, &[]);
+        assert_eq!(engine.report(0, after(0), &report), Err(5), "{pid:#x}");
+    }
+    for errors in [16, 256, u32::MAX] {
+        let report = Report::lin(0x80, errors, &[]);
+        assert_eq!(engine.report(0, after(0), &report), Err(5), "{errors}");
+    }
 }
 
 #[test]

@@ -91,6 +91,7 @@ fn lin_key(pid: u8) -> u32 {
 #[cfg(test)]
 mod tests {
     use super::*;
+    use crate::pid;
 
     fn range(lower: u32, upper: u32) -> Range {
         Range { lower, upper }
@@ -119,15 +120,16 @@ mod tests {
     fn a_code_outside_its_mask_matches_nothing() {
         let filter = Filter::LinMask { mask: 1, code: 3 };
         assert!(filter.is_in_range());
-        assert!((0..=255).all(|pid| !filter.matches(Id::Lin(pid))));
+        assert!((0..pid::IDS).all(|id| !filter.matches(Id::Lin(pid::of_id(id)))));
     }
 
     #[test]
     fn a_lin_key_has_no_parity_bits() {
-        let filter = Filter::LinRange(range(61, 61));
-        assert!(filter.matches(Id::Lin(0x7d)));
-        assert!(filter.matches(Id::Lin(0x3d)));
-        assert!(!filter.matches(Id::Lin(0x7e)));
+        for (key, pid) in [(0, 0x80), (1, 0xc1), (2, 0x42), (60, 0x3c), (61, 0x7d)] {
+            let filter = Filter::LinRange(range(key, key));
+            assert!(filter.matches(Id::Lin(pid)));
+            assert!(!filter.matches(Id::Lin(0xfe)));
+        }
     }
 
     #[test]

@@ -63,13 +63,10 @@ impl Kind {
 pub enum Id {
     /// The 32-bit id with its two type bits.
     Can(u32),
+    /// The PID, with its parity bits.
     Lin(u8),
     /// Channel A counts 1, channel B 2.
-    FlexRay {
-        channels: u8,
-        slot: u16,
-        cycle: u8,
-    },
+    FlexRay { channels: u8, slot: u16, cycle: u8 },
 }
 
 impl Id {

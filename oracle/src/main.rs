@@ -3,10 +3,12 @@
 mod calls;
 mod cause;
 mod count;
+mod count_pids;
 mod engine;
 mod filter;
 mod frame;
 mod framer;
+mod pid;
 mod play;
 mod random;
 mod reader;

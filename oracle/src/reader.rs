@@ -2,6 +2,7 @@
 
 use crate::frame::{Frame, Header, Id, Item, Kind, Placed, Time};
 use crate::frame::{CAN_EXTENDED, CAN_RESERVED, HEADER_LENGTH, NANOS_PER_SECOND};
+use crate::pid;
 
 pub const TOO_SHORT: u8 = 20;
 pub const VERSION: u8 = 21;
@@ -24,21 +25,18 @@ pub enum Step<'a> {
 
 pub fn read(frame: &[u8]) -> Result<Frame<'_>, u8> {
     let header = read_header(frame)?;
-    let mut left = Left {
-        frame,
-        at: HEADER_LENGTH,
-    };
     let mut items = Vec::new();
-    while left.at < frame.len() {
-        let start = left.at;
-        let item = read_item(&mut left, header.time)?;
-        items.push(Placed {
-            start,
-            next: left.at,
-            item,
-        });
-    }
+    read_items(frame, header.time, &mut items)?;
     Ok(Frame { header, items })
+}
+
+/// Where the item starts for which the frame is refused, so that coverage can look at it. Nothing
+/// where the frame is right or its header is wrong.
+pub fn refused_item(frame: &[u8]) -> Option<usize> {
+    let header = read_header(frame).ok()?;
+    let mut before = Vec::new();
+    read_items(frame, header.time, &mut before).err()?;
+    Some(before.last().map_or(HEADER_LENGTH, |item| item.next))
 }
 
 pub fn step(frame: &[u8], place: u64) -> Result<Step<'_>, u8> {
@@ -107,6 +105,24 @@ impl<'a> Left<'a> {
     }
 }
 
+/// Puts the items down that come before the end, or before the first one that is refused.
+fn read_items<'a>(frame: &'a [u8], header: Time, items: &mut Vec<Placed<'a>>) -> Result<(), u8> {
+    let mut left = Left {
+        frame,
+        at: HEADER_LENGTH,
+    };
+    while left.at < frame.len() {
+        let start = left.at;
+        let item = read_item(&mut left, header)?;
+        items.push(Placed {
+            start,
+            next: left.at,
+            item,
+        });
+    }
+    Ok(())
+}
+
 fn read_item<'a>(left: &mut Left<'a>, header: Time) -> Result<Item<'a>, u8> {
     let offset = big_endian(left.take(2)?) as u16;
     let flags = left.byte()?;
@@ -164,7 +180,7 @@ fn read_state(left: &mut Left, kind: Kind) -> Result<u8, u8> {
 fn read_id(left: &mut Left, kind: Kind) -> Result<Id, u8> {
     match kind {
         Kind::Can => can_id(big_endian(left.take(4)?) as u32),
-        Kind::Lin => Ok(Id::Lin(left.byte()?)),
+        Kind::Lin => lin_id(left.byte()?),
         Kind::FlexRay => flexray_id(left.take(3)?),
     }
 }
@@ -177,6 +193,13 @@ fn can_id(key: u32) -> Result<Id, u8> {
         return Err(OUT_OF_RANGE);
     }
     Ok(Id::Can(key))
+}
+
+fn lin_id(pid: u8) -> Result<Id, u8> {
+    if !pid::is_right(pid) {
+        return Err(OUT_OF_RANGE);
+    }
+    Ok(Id::Lin(pid))
 }
 
 fn flexray_id(id: &[u8]) -> Result<Id, u8> {

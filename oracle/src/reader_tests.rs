@@ -157,6 +157,51 @@ fn can_ids() {
 }
 
 #[test]
+fn lin_ids() {
+    for pid in 0..=255 {
+        let expected = if pid::is_right(pid) { 0 } else { 29 };
+        assert_eq!(refusal(&[0, 0, 0x62, 7, pid, 0]), expected, "{pid:#x}");
+        assert_eq!(
+            refusal(&[0, 0, 0xE2, 7, 0x40, pid, 0]),
+            expected,
+            "{pid:#x}"
+        );
+        assert_eq!(refusal(&[0, 0, 0xC2, 7, 0x40, pid]), expected, "{pid:#x}");
+    }
+}
+
+#[test]
+fn wrong_parity_has_the_place_of_the_id() {
+    // The reserved bits of the state go before it, and so does its own byte where it is missing.
+    assert_eq!(refusal(&[0, 0, 0xE2, 7, 0x10, 0x3d, 0]), 25);
+    assert_eq!(refusal(&[0, 0, 0xC2, 7, 0x20, 0x3d]), 25);
+    assert_eq!(refusal(&[0, 0, 0xE2, 7, 0x40]), 23);
+    // The payload's length comes after it, whether it is missing or too large.
+    assert_eq!(refusal(&[0, 0, 0x62, 7, 0x3d]), 29);
+    assert_eq!(refusal(&[0, 0, 0x62, 7, 0x7d]), 23);
+    assert_eq!(refusal(&[0, 0, 0x62, 7, 0x3d, 9]), 29);
+    assert_eq!(refusal(&[0, 0, 0x62, 7, 0x7d, 9]), 27);
+    assert_eq!(refusal(&[0, 0, 0x64, 7, 0x3d, 0]), 24);
+    assert_eq!(refusal(&[0, 0, 0xA2, 7, 0x3d, 0]), 26);
+}
+
+#[test]
+fn a_wrong_pid_in_a_later_item() {
+    let (right, wrong) = ([0, 0, 0x62, 7, 0x7d, 0], [0, 0, 0x62, 7, 0x3d, 0]);
+    assert_eq!(refusal(&[right, wrong].concat()), 29);
+    assert_eq!(refusal(&[wrong, right].concat()), 29);
+    assert_eq!(refusal(&[wrong, [0, 0, 0x62, 7, 0x7d, 9]].concat()), 29);
+    assert_eq!(refusal(&[[0, 0, 0x62, 7, 0x7d, 9], wrong].concat()), 27);
+    let frame = framed(&[right, wrong].concat());
+    assert_eq!(step(&frame, 14), Err(29));
+    assert_eq!(step(&frame, 15), Err(29));
+    assert_eq!(refused_item(&frame), Some(20));
+    assert_eq!(refused_item(&framed(&wrong)), Some(14));
+    assert_eq!(refused_item(&framed(&right)), None);
+    assert_eq!(refused_item(&frame[..13]), None);
+}
+
+#[test]
 fn flexray_ids() {
     let with = |id: [u8; 3]| refusal(&[&[0, 0, 0x63, 7], &id[..], &[0]].concat());
     assert_eq!(with([0xcc, 0x03, 0x3f]), 0);
@@ -181,7 +226,7 @@ fn payload_lengths() {
     let kinds: [(&[u8], usize); 4] = [
         (&[0, 0, 0x61, 7, 0, 0, 0, 1], 8),
         (&[0, 0, 0x61, 7, 0x40, 0, 0, 1], 64),
-        (&[0, 0, 0x62, 7, 0xff], 8),
+        (&[0, 0, 0x62, 7, 0xbf], 8),
         (&[0, 0, 0x63, 7, 0x48, 1, 0], 254),
     ];
     for (head, longest) in kinds {
@@ -196,7 +241,7 @@ fn payload_lengths() {
 
 #[test]
 fn an_earlier_item_is_judged_first() {
-    let first = [0, 0, 0x62, 7, 0xff, 9];
+    let first = [0, 0, 0x62, 7, 0xbf, 9];
     let second = [0, 0, 0x00];
     assert_eq!(refusal(&[&first[..], &second[..]].concat()), 27);
     assert_eq!(refusal(&[&second[..], &first[..]].concat()), 24);

@@ -1,11 +1,12 @@
 //! What a bus hands over, as far as it can be judged without the source.
 
 use crate::frame::{Id, Kind, CAN_EXTENDED, CAN_RESERVED};
+use crate::pid;
 use crate::state::CONFLICT;
 
 pub struct Report<'a> {
     pub kind: Kind,
-    /// Nothing where a number of the report is out of range.
+    /// Nothing where a number of the report is out of range, or the parity of a PID is wrong.
     pub id: Option<Id>,
     /// Rule 4: the bits of the state byte that belong to this report alone. Nothing where the
     /// report says nothing of the state; no bit set says that it is known.
@@ -24,11 +25,10 @@ impl<'a> Report<'a> {
     }
 
     pub fn lin(pid: u32, errors: u32, payload: &'a [u8]) -> Report<'a> {
-        let pid = u8::try_from(pid).ok();
         let bits = u8::try_from(errors).ok().filter(|&bits| bits < 16);
         Report {
             kind: Kind::Lin,
-            id: pid.filter(|_| bits.is_some()).map(Id::Lin),
+            id: lin_id(pid).filter(|_| bits.is_some()),
             bits,
             payload: Some(payload),
         }
@@ -63,6 +63,11 @@ fn can_id(key: u32) -> Option<Id> {
     let standard = key & CAN_EXTENDED == 0;
     let too_big = standard && key & 0x1fff_ffff > 2_047;
     (key & CAN_RESERVED == 0 && !too_big).then_some(Id::Can(key))
+}
+
+fn lin_id(pid: u32) -> Option<Id> {
+    let pid = u8::try_from(pid).ok()?;
+    pid::is_right(pid).then_some(Id::Lin(pid))
 }
 
 fn flexray_id(channels: u32, slot: u32, cycle: u32) -> Option<Id> {

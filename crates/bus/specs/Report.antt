@@ -36,7 +36,7 @@ linReport source t pid errors = record {
   time = t;
   ident = Ident.Lin (pid % 256);
   carries = true;
-  ranged = leb pid 255 && leb errors 15;
+  ranged = identOk (Ident.Lin pid) && leb errors 15;
   kept = 240;
   raised = errors % 256;
 }

@@ -53,7 +53,7 @@ pub fn lin(source: u64, time: Time, pid: u32, errors: u32) -> Report
         time,
         ident: Ident::Lin(codec::number::low8(pid as u64)),
         carries: true,
-        ranged: (pid <= 255) & (errors <= 15),
+        ranged: codec::ident::pid_ok(pid) & (errors <= 15),
         kept: 240,
         raised: codec::number::low8(errors as u64),
     }

@@ -10,9 +10,9 @@ use lib.Dec.{ltb, eqb}
 use borrow.Author.Tests.{ltb-false, leb-true, le-leb, eqb-true}
 use Rattle.codec.specs.Choice.{pick, bit}
 use Rattle.codec.specs.Number.{be, word, fits, Bytes, get8Of, get16Of, get32Of, partOf}
-use Rattle.codec.specs.Ident.{networkType, kindIn, kindOf, identBytes, identBit, identOk, canZero, canRange, flexrayRange, flexrayBytes}
+use Rattle.codec.specs.Ident.{networkType, kindIn, kindOf, identBytes, identBit, identOk, canZero, canRange, pidOk, flexrayRange, flexrayBytes}
 use Rattle.codec.specs.Item.{stateBytes, stateBit, setOk, stateOk, loadOk, loadBytes}
-use Rattle.codec.specs.Field.{readFlags, readState, canIdent, flexrayIdent, readCan, readLin, readFlexray, readIdent, readLoad, bytesAt}
+use Rattle.codec.specs.Field.{readFlags, readState, canIdent, linIdent, flexrayIdent, readCan, readLin, readFlexray, readIdent, readLoad, bytesAt}
 use Rattle.codec.specs.Layout.{StateFits, IdentFits}
 use Rattle.codec.specs.declared.number.Read8.{Read8}
 use Rattle.codec.specs.declared.number.Read8.the-variants as Read8
@@ -203,12 +203,13 @@ module _ (s : List ℕ) (at : ℕ) where
       rw (← x, ← y) record { took = took32 s at p; here = refl; ok = simp (f, g); same = refl })))
 
   lin-got : {ident : Ident} {next : ℕ} → readLin s at ≡ IdentRead.Got ident next → IdentGot s at Kind.Lin true ident next
-  unfolding readLin
+  unfolding readLin linIdent
   lin-got {ident} {next} e =
       in8 (get8Of s at) _ _ e (λ z. never (cc)) (λ v n p e1.
+      chosen (pidOk v) _ _ e1 (λ z. never (cc)) (λ f e2.
       let x : Ident.Lin v ≡ ident = cc in
       let y : n ≡ next = cc in
-      rw (← x, ← y) record { took = took8 s at p; here = refl; ok = refl; same = refl })
+      rw (← x, ← y) record { took = took8 s at p; here = refl; ok = f; same = refl }))
 
   flexray-got : {ident : Ident} {next : ℕ} → readFlexray s at ≡ IdentRead.Got ident next → IdentGot s at Kind.FlexRay true ident next
   unfolding readFlexray flexrayIdent

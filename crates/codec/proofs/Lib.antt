@@ -1,4 +1,5 @@
 pub mod BoolLaws
+pub mod PidLaws
 pub mod TimeLaws
 pub mod NumberLaws
 pub mod ItemLaws

@@ -13,7 +13,7 @@ use Rattle.codec.specs.Choice.{pick, bit}
 use Rattle.codec.specs.Number.{be, val, word, fits, Bytes, get8Of, get16Of, get32Of, partOf}
 use Rattle.codec.specs.Ident.{networkType, kindIn, kindOf, identBytes, identBit, identOk, mostOf, canZero, canRange}
 use Rattle.codec.specs.Item.{stateBytes, stateBit, setOk, stateOk, loadOk, loadBytes, flagsOf, encode}
-use Rattle.codec.specs.Field.{readFlags, readState, canIdent, flexrayIdent, readCan, readLin, readFlexray, readIdent, readLoad, readItem, bytesAt}
+use Rattle.codec.specs.Field.{readFlags, readState, canIdent, flexrayIdent, readCan, readLin, linIdent, readFlexray, readIdent, readLoad, readItem, bytesAt}
 use Rattle.codec.specs.Header.{headerBytes, readHeader}
 use Rattle.codec.specs.Layout.{Entry, Valid, StateFits, IdentFits}
 use Rattle.codec.specs.declared.number.Part.the-variants as Part
@@ -115,9 +115,9 @@ module _ {s : List ℕ} {at : ℕ} where
 
   ident-back : (ident : Ident) → identOk ident ≡ true → IdentFits ident → Stands s at (identBytes ident)
       → readIdent s at (kindOf ident) (eqb (identBit ident) 1) ≡ IdentRead.Got ident (at + length (identBytes ident))
-  unfolding readIdent readCan canIdent readLin readFlexray flexrayIdent
+  unfolding readIdent readCan canIdent readLin linIdent readFlexray flexrayIdent
   ident-back (Ident.Can key) ok h w = simp (back32 key h w, and-l (canZero key) (canRange key) ok, and-r (canZero key) (canRange key) ok)
-  ident-back (Ident.Lin pid) ok h w = simp (back8 w)
+  ident-back (Ident.Lin pid) ok h w = simp (back8 w, ok)
   ident-back (Ident.FlexRay channels slot cycle) ok h w =
       let r = flexray-in channels slot cycle ok in
       let f : ℕ = channels * 64 + 8 + slot / 256 in

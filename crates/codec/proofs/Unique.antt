@@ -13,6 +13,7 @@ use Rattle.codec.proofs.ident.kind_of.Reads as kind-of
 use Rattle.codec.proofs.ident.can_zero.Reads as can-zero
 use Rattle.codec.proofs.ident.can_range.Reads as can-range
 use Rattle.codec.proofs.ident.can_fd.Reads as can-fd
+use Rattle.codec.proofs.ident.pid_ok.Reads as pid-ok
 use Rattle.codec.proofs.ident.flexray_range.Reads as flexray-range
 use Rattle.codec.proofs.ident.ident_ok.Reads as ident-ok
 use Rattle.codec.proofs.item.set_ok.Reads as set-ok
@@ -75,6 +76,9 @@ can-range-unique κs a r r′ x x′ p q = p ∙ sym q
 
 pub can-fd-unique : (κs : _) (a : _) (r r′ : _) (x x′ : _) → can-fd.Post κs a r x → can-fd.Post κs a r′ x′ → r ≡ r′
 can-fd-unique κs a r r′ x x′ p q = p ∙ sym q
+
+pub pid-ok-unique : (κs : _) (a : _) (r r′ : _) (x x′ : _) → pid-ok.Post κs a r x → pid-ok.Post κs a r′ x′ → r ≡ r′
+pid-ok-unique κs a r r′ x x′ p q = p ∙ sym q
 
 pub flexray-range-unique : (κs : _) (a : _) (r r′ : _) (x x′ : _) → flexray-range.Post κs a r x → flexray-range.Post κs a r′ x′ → r ≡ r′
 flexray-range-unique κs a r r′ x x′ p q = p ∙ sym q

@@ -2,14 +2,16 @@
 use Prim.Native.Nat.{ℕ}
 use mathlib.Core.Path.{_≡_, refl}
 use mathlib.Core.Bool.{true}
-use mathlib.Core.List.{List, [], _∷_}
+use mathlib.Core.List.{List, [], _∷_, map}
 use Rattle.codec.specs.Number.{word, fits, get8Of, get16Of, get32Of, partOf}
-use Rattle.codec.specs.Ident.{kindIn, canZero, canRange, canFd, flexrayRange, identBytes}
+use Rattle.codec.specs.Ident.{kindIn, canZero, canRange, canFd, evenParity, oddParity, pidOk, flexrayRange, identBytes}
 use Rattle.codec.specs.Item.{encode}
-use Rattle.codec.specs.Field.{readFlags, readState, canIdent, flexrayIdent, readCan, readFlexray, readIdent, readLoad, readItem, bytesAt}
+use Rattle.codec.specs.Field.{readFlags, readState, canIdent, flexrayIdent, readCan, readLin, linIdent, readFlexray, readIdent, readLoad, readItem, bytesAt}
 use Rattle.codec.specs.Header.{readHeader}
 use Rattle.codec.specs.Time.{ns, elapsed, ticksOf, recoveredOf}
+use Rattle.codec.proofs.PidLaws.{pidOf}
 use Rattle.codec.specs.declared.time.Elapsed.the-variants as Elapsed
+use Rattle.codec.specs.declared.refusal.Refusal.the-variants as Refusal
 use Rattle.codec.specs.declared.ident.Kind.the-variants as Kind
 use Rattle.codec.specs.declared.ident.Ident.the-variants as Ident
 use Rattle.codec.specs.declared.item.State.the-variants as State
@@ -60,6 +62,19 @@ flexray = refl
 flexray-back : readIdent (0xcc ∷ 0x03 ∷ 0x3f ∷ []) 0 Kind.FlexRay true ≡ IdentRead.Got (Ident.FlexRay 3 1027 63) 3
 unfolding readIdent readFlexray flexrayIdent partOf fits flexrayRange
 flexray-back = refl
+
+-- the PIDs of ids 0, 1, 2, 3C, 3D and 3F hexadecimal
+pids : map pidOf (0x00 ∷ 0x01 ∷ 0x02 ∷ 0x3c ∷ 0x3d ∷ 0x3f ∷ []) ≡ 0x80 ∷ 0xc1 ∷ 0x42 ∷ 0x3c ∷ 0x7d ∷ 0xbf ∷ []
+pids = refl
+
+-- a LIN id read: the right PID of id 3D, and the same id with P0 fallen
+lin-back : readIdent (0x7d ∷ []) 0 Kind.Lin true ≡ IdentRead.Got (Ident.Lin 0x7d) 1
+unfolding readIdent readLin linIdent get8Of fits pidOk evenParity oddParity
+lin-back = refl
+
+lin-broken : readIdent (0x3d ∷ []) 0 Kind.Lin true ≡ IdentRead.Refused Refusal.Range
+unfolding readIdent readLin linIdent get8Of fits pidOk evenParity oddParity
+lin-broken = refl
 
 -- P2 to P5 (docs/RULES.md, "Worked examples") on the measure
 under-a-tick : elapsed 0 9999 ≡ Elapsed.Ticks (record { 0 = 0 })

@@ -7,7 +7,7 @@ use lib.ListN.{take, drop, getD}
 use lib.Dec.{ltb, eqb}
 use Rattle.codec.specs.Choice.{pick}
 use Rattle.codec.specs.Number.{fits, get8Of, get16Of, get32Of, partOf, open8, open16, open32, openPart}
-use Rattle.codec.specs.Ident.{kindIn, openKind, canZero, canRange, flexrayRange, mostOf}
+use Rattle.codec.specs.Ident.{kindIn, openKind, canZero, canRange, pidOk, flexrayRange, mostOf}
 use Rattle.codec.specs.Item.{setOk, stateOk}
 use Rattle.codec.specs.declared.refusal.Refusal.{Refusal}
 use Rattle.codec.specs.declared.refusal.Refusal.the-variants as Refusal
@@ -90,8 +90,12 @@ canIdent key next =
 unfoldable pub readCan : List ℕ → ℕ → IdentRead
 readCan s at = open32 (get32Of s at) canIdent (IdentRead.Refused Refusal.Missing)
 
+-- 29 parity
+unfoldable pub linIdent : ℕ → ℕ → IdentRead
+linIdent pid next = pick (pidOk pid) (IdentRead.Got (Ident.Lin pid) next) (IdentRead.Refused Refusal.Range)
+
 unfoldable pub readLin : List ℕ → ℕ → IdentRead
-readLin s at = open8 (get8Of s at) (λ pid next. IdentRead.Got (Ident.Lin pid) next) (IdentRead.Refused Refusal.Missing)
+readLin s at = open8 (get8Of s at) linIdent (IdentRead.Refused Refusal.Missing)
 
 -- 25 FlexRay bits 5 and 4 or a clear bit 3, then 29 channel, slot and cycle
 unfoldable pub flexrayIdent : ℕ → ℕ → ℕ → ℕ → IdentRead

@@ -1,8 +1,9 @@
 -- Frame ids on the wire (docs/RULES.md, "Frame bytes"; Specification of Bus Mirroring, 7.4.2.2.5 and 7.4.2.2.8).
-use Prim.Native.Nat.{ℕ, _+_, _*_, _/_, _%_, _^_}
+use Prim.Native.Nat.{ℕ, _+_, _-_, _*_, _/_, _%_, _^_}
 use mathlib.Core.Bool.{Bool, true, false, _&&_, _||_}
 use mathlib.Core.List.{List, [], _∷_}
 use lib.Dec.{leb, eqb}
+use lib.Bits.{bitXor}
 use Rattle.codec.specs.Choice.{pick}
 use Rattle.codec.specs.Number.{be}
 use Rattle.codec.specs.declared.ident.Kind.{Kind}
@@ -44,6 +45,22 @@ canRange key = eqb (key / 2 ^ 31) 1 || leb (key % 2 ^ 29) 2047
 unfoldable pub canFd : ℕ → Bool
 canFd key = eqb (key / 2 ^ 30 % 2) 1
 
+-- the exclusive or of four bits of a number
+abbrev pub xorOf : ℕ → ℕ → ℕ → ℕ → ℕ → ℕ
+xorOf n a b c d = bitXor (bitXor (bitXor (n / 2 ^ a % 2) (n / 2 ^ b % 2)) (n / 2 ^ c % 2)) (n / 2 ^ d % 2)
+
+-- LIN PID: bits 5 to 0 are the id, bit 6 is P0, the exclusive or of id bits 0, 1, 2 and 4
+unfoldable pub evenParity : ℕ → ℕ
+evenParity pid = xorOf pid 0 1 2 4
+
+-- bit 7 is P1, the complement of that of id bits 1, 3, 4 and 5
+unfoldable pub oddParity : ℕ → ℕ
+oddParity pid = 1 - xorOf pid 1 3 4 5
+
+-- and nothing else stands above the id: a number over 255 is no PID
+unfoldable pub pidOk : ℕ → Bool
+pidOk pid = eqb (pid / 2 ^ 6) (oddParity pid * 2 + evenParity pid)
+
 -- channels A 1, B 2, both 3; slot 1 to 2,047; cycle 0 to 63 (SWS_Mirror_00105, 00107)
 unfoldable pub flexrayRange : ℕ → ℕ → ℕ → Bool
 flexrayRange channels slot cycle = leb 1 channels && leb channels 3 && leb 1 slot && leb slot 2047 && leb cycle 63
@@ -68,7 +85,7 @@ identBit (Ident.Bare k) = 0
 
 abbrev pub identOk : Ident → Bool
 identOk (Ident.Can key) = canZero key && canRange key
-identOk (Ident.Lin pid) = true
+identOk (Ident.Lin pid) = pidOk pid
 identOk (Ident.FlexRay channels slot cycle) = flexrayRange channels slot cycle
 identOk (Ident.Bare k) = true
 

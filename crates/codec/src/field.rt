@@ -11,7 +11,7 @@ use crate::number::Read32;
 use crate::refusal::Refusal;
 use crate::time::Ticks;
 ghost use mathlib.Core.Path.{_≡_};
-ghost use Rattle.codec.specs.Field.{readFlags, readState, canIdent, flexrayIdent, readCan, readLin, readFlexray, readIdent, readLoad, readItem, bytesAt, whyFlags, whyState, whyIdent, whyLoad};
+ghost use Rattle.codec.specs.Field.{readFlags, readState, canIdent, linIdent, flexrayIdent, readCan, readLin, readFlexray, readIdent, readLoad, readItem, bytesAt, whyFlags, whyState, whyIdent, whyLoad};
 
 pub enum FlagsRead {
     Got(Kind, u8, usize),
@@ -101,13 +101,23 @@ fn read_can(s: &[u8], at: usize) -> IdentRead
     can_ident(key, next)
 }
 
+fn lin_ident(pid: u8, next: usize) -> IdentRead
+    ensures { λ r. ⌜ r ≡ linIdent pid next ⌝ }
+{
+    if crate::ident::pid_ok(pid as u32) {
+        IdentRead::Got(Ident::Lin(pid), next)
+    } else {
+        IdentRead::Refused(Refusal::Range)
+    }
+}
+
 fn read_lin(s: &[u8], at: usize) -> IdentRead
     ensures { λ r. ⌜ r ≡ readLin (now (s .entry)) at ⌝ }
 {
     let Read8::Got(pid, next) = crate::number::get8(s, at) else {
         return IdentRead::Refused(Refusal::Missing);
     };
-    IdentRead::Got(Ident::Lin(pid), next)
+    lin_ident(pid, next)
 }
 
 // Bits 5 and 4 of the first byte are zero and bit 3 is one; then channel, slot and cycle are judged.

@@ -1,6 +1,6 @@
 // The frame ids of the three buses, and the network types.
 ghost use mathlib.Core.Path.{_≡_};
-ghost use Rattle.codec.specs.Ident.{networkType, kindIn, kindOf, canZero, canRange, canFd, flexrayRange, identOk, canMost, mostOf};
+ghost use Rattle.codec.specs.Ident.{networkType, kindIn, kindOf, canZero, canRange, canFd, pidOk, flexrayRange, identOk, canMost, mostOf};
 ghost use Rattle.codec.specs.Number.{Below};
 
 pub enum Kind {
@@ -82,6 +82,15 @@ pub fn can_fd(key: u32) -> bool
     key >> 30 & 1 == 1
 }
 
+// Above the id's six bits stand P0, then P1. The other bits of a tap are masked away after the exclusive or.
+pub fn pid_ok(pid: u32) -> bool
+    ensures { λ r. ⌜ r ≡ pidOk pid ⌝ }
+{
+    let p0 = (pid ^ pid >> 1 ^ pid >> 2 ^ pid >> 4) & 1;
+    let p1 = (pid >> 1 ^ pid >> 3 ^ pid >> 4 ^ pid >> 5 ^ 1) & 1;
+    pid >> 6 == p1 << 1 | p0
+}
+
 pub fn flexray_range(channels: u8, slot: u16, cycle: u8) -> bool
     ensures { λ r. ⌜ r ≡ flexrayRange channels slot cycle ⌝ }
 {
@@ -93,7 +102,7 @@ pub fn ident_ok(id: Ident) -> bool
 {
     match id {
         Ident::Can(key) => can_zero(key) & can_range(key),
-        Ident::Lin(_) => true,
+        Ident::Lin(pid) => pid_ok(pid as u32),
         Ident::FlexRay {
             channels,
             slot,

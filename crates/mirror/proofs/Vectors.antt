@@ -3,7 +3,7 @@ use mathlib.Core.Path.{refl}
 use Rattle.codec.specs.Number.{fits}
 use Rattle.codec.specs.Time.{ticksOf, elapsed, overdueOf}
 use Rattle.codec.specs.Ident as Ident
-use Rattle.codec.specs.Ident.{canZero, canFd, flexrayRange}
+use Rattle.codec.specs.Ident.{canZero, canFd, evenParity, oddParity, pidOk, flexrayRange}
 use Rattle.codec.specs.Header.{headerBytes}
 use Rattle.codec.specs.Item.{linZero, itemOk, encode}
 use Rattle.codec.specs.Field.{bytesAt}
@@ -26,8 +26,8 @@ use Rattle.mirror.specs.Take.{takenOf, outputOf}
 use Rattle.mirror.specs.Vectors.{table, Holds}
 
 pub vectors : Holds table
-unfolding fits ticksOf elapsed overdueOf Ident.canRange canZero canFd flexrayRange headerBytes linZero itemOk encode bytesAt
-    limitsOk soundMeter emptyMeter stateShown itemOf offsetFor closesFor slotOf counted closedMeter Meter.startOf placedMeter takenMeter
+unfolding fits ticksOf elapsed overdueOf Ident.canRange canZero canFd evenParity oddParity pidOk flexrayRange headerBytes linZero itemOk encode
+    bytesAt limitsOk soundMeter emptyMeter stateShown itemOf offsetFor closesFor slotOf counted closedMeter Meter.startOf placedMeter takenMeter
     emptyQueue queued lengthAt written emptyFramer closed begun laidOut itemSize placed filledMeter filledBytes added add passed takeOf outOf
     cycled sameKind canRange linRange slotsOf freshSource startedSource addCause addedFilter due tickDue stateOffer calmed
     canReport linReport flexrayReport tooBig earlyCause lateCause reportCause noted offerOf settled

@@ -1,6 +1,7 @@
 //! Drafts of the engine's calls as they would be accepted in a scene, or nearly always.
 
 use super::draft::{Draft, Word, NARROW, WIDE};
+use super::garble;
 use super::near;
 use super::scene::Scene;
 use super::valid;
@@ -79,9 +80,23 @@ pub fn stop(scene: &Scene, number: usize) -> Draft {
 }
 
 pub fn frame(scene: &mut Scene, number: usize) -> Draft {
-    let at = scene.next_time();
     let from = scene.source(number).clone();
     let id = near::id(scene.random, &from);
+    frame_of(scene, number, id)
+}
+
+/// A frame of a LIN source with wrong parity. Its filters alone would most often let it pass.
+pub fn garbled_frame(scene: &mut Scene, number: usize) -> Draft {
+    let from = scene.source(number).clone();
+    let id = match near::id(scene.random, &from) {
+        Id::Lin(pid) => Id::Lin(garble::garbled(scene.random, pid)),
+        other => other,
+    };
+    frame_of(scene, number, id)
+}
+
+fn frame_of(scene: &mut Scene, number: usize, id: Id) -> Draft {
+    let at = scene.next_time();
     let payload = payload(scene, id);
     let mut words = [time(at), id_words(id)].concat();
     if let Id::Lin(_) = id {
@@ -90,7 +105,7 @@ pub fn frame(scene: &mut Scene, number: usize) -> Draft {
         words.push(narrow(errors, 0, 15));
     }
     words.push(payload);
-    let name = ["can", "lin", "flexray"][from.kind as usize - 1];
+    let name = ["can", "lin", "flexray"][scene.source(number).kind as usize - 1];
     of_source(name, scene, number, words)
 }
 
@@ -106,7 +121,7 @@ pub fn conflict(scene: &mut Scene, number: usize) -> Draft {
 fn id_words(id: Id) -> Vec<Word> {
     match id {
         Id::Can(key) => vec![Word::at_edges(key.into(), NARROW, &KEYS)],
-        Id::Lin(pid) => vec![narrow(pid, 0, 255)],
+        Id::Lin(pid) => vec![pid_word(pid)],
         Id::FlexRay {
             channels,
             slot,
@@ -117,6 +132,16 @@ fn id_words(id: Id) -> Vec<Word> {
             narrow(cycle, 0, 63),
         ],
     }
+}
+
+/// The same id under other parity bits, the ends of a byte, the largest right PID, and numbers that
+/// are a right PID again if they are cut to a byte.
+fn pid_word(pid: u8) -> Word {
+    let garbled = garble::PARITY_BITS.map(|bits| u64::from(pid ^ bits));
+    let pid = u64::from(pid);
+    let ends = [0, 0x80, 0xfe, 0xff, 0x100];
+    let cut = [pid + 0x100, pid + 0x1_0000, NARROW - 0x7f, NARROW];
+    Word::at_edges(pid, NARROW, &[&garbled[..], &ends, &cut].concat())
 }
 
 /// Payloads are mostly short, and often just fill the frame, or are one byte more.

@@ -1,5 +1,6 @@
 //! Frames with one thing wrong.
 
+use super::garble::garbled;
 use super::raw::{RawFrame, RawItem, CAN, FLAG_SETS, FLEXRAY, ID, KINDS, LIN, PAYLOAD, STATE};
 use super::sheet::Sheet;
 use super::valid;
@@ -20,7 +21,7 @@ const fn on(kinds: &'static [u8], flags: u8, apply: fn(&mut RawItem, &mut Random
     }
 }
 
-pub const ITEM_DAMAGES: [ItemDamage; 18] = [
+pub const ITEM_DAMAGES: [ItemDamage; 19] = [
     on(&KINDS, 0, |item, _| item.kind = 0),
     on(&KINDS, 0, |item, _| item.kind = 4),
     on(&KINDS, 0, |item, random| {
@@ -32,6 +33,9 @@ pub const ITEM_DAMAGES: [ItemDamage; 18] = [
     }),
     on(&[LIN], STATE, |item, random| {
         item.state[0] |= random.pick(&[0x10, 0x20, 0x30])
+    }),
+    on(&[LIN], ID, |item, random| {
+        item.id[0] = garbled(random, item.id[0])
     }),
     on(&[CAN], ID, |item, _| item.id[0] |= 0x20),
     on(&[CAN], ID, standard_id_too_big),
@@ -227,7 +231,7 @@ mod tests {
 
     /// What a reader says of each item damage where the item is the last.
     const REFUSALS: [u8; ITEM_DAMAGES.len()] = [
-        24, 24, 24, 24, 26, 25, 25, 29, 25, 25, 29, 29, 29, 27, 27, 27, 23, 23,
+        24, 24, 24, 24, 26, 25, 29, 25, 29, 25, 25, 29, 29, 29, 27, 27, 27, 23, 23,
     ];
 
     #[test]

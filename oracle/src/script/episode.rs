@@ -78,12 +78,13 @@ const MOODS: [Mood; 7] = [
     EVERYDAY, EVERYDAY, OVERRUN, OVERRUN, STATES, FILTERS, CARELESS,
 ];
 
-const BEFORE_SETUP: [&str; 22] = [
+const BEFORE_SETUP: [&str; 23] = [
     "start 0",
     "stop 0",
     "can 0 16 0 0x123 0102",
     "can 0 16 1000000000 0x123 0102",
     "lin 0 16 0 0x7D 0 -",
+    "lin 0 16 0 0x3D 0 -",
     "flexray 0 16 0 1 1 0 -",
     "conflict 0 16 0 3 1027 63",
     "can-state 0 1 0 0 0",
@@ -216,11 +217,11 @@ fn report(scene: &mut Scene) {
 }
 
 fn any_report(scene: &mut Scene, number: usize) -> Draft {
-    let conflicting = scene.source(number).kind == Kind::FlexRay && scene.random.one_in(3);
-    if conflicting {
-        calls::conflict(scene, number)
-    } else {
-        calls::frame(scene, number)
+    let kind = scene.source(number).kind;
+    match kind {
+        Kind::Lin if scene.random.one_in(20) => calls::garbled_frame(scene, number),
+        Kind::FlexRay if scene.random.one_in(3) => calls::conflict(scene, number),
+        _ => calls::frame(scene, number),
     }
 }
 

@@ -7,10 +7,13 @@ mod damage;
 mod draft;
 mod edges;
 mod episode;
+mod garble;
 mod long;
 mod near;
 mod opening;
 mod order;
+mod pid_frames;
+mod pid_reports;
 mod raw;
 mod scene;
 mod sheet;
@@ -34,8 +37,10 @@ pub fn make(seed: u64, lines: usize) -> Vec<u8> {
     episode::before_setup(&mut sheet);
     sheet.note(&format!("Made from seed {seed}."));
     edges::every_edge(&mut sheet, &mut random);
+    pid_reports::every_report(&mut sheet, &mut random);
     valid::every_form(&mut sheet, &mut random);
     sweep::every_value(&mut sheet, &mut random);
+    pid_frames::every_frame(&mut sheet, &mut random);
     damage::every_damage(&mut sheet, &mut random);
     order::two_causes(&mut sheet, &mut random);
     bad::every_bad_line(&mut sheet, &mut random);
@@ -106,6 +111,31 @@ mod tests {
                 assert!(counts.contains(&wanted), "{cause} with seed {seed}");
             }
             assert!(!counts.contains("taken unreadable"));
+        }
+    }
+
+    #[test]
+    fn every_pid_comes_every_way_whatever_the_seed() {
+        let ways = [
+            "all",
+            "matched",
+            "unmatched",
+            "read",
+            "step",
+            "60",
+            "e0",
+            "c0",
+            "first",
+            "later",
+        ];
+        for seed in 0..5 {
+            let counts = String::from_utf8(count::report(&make(seed, 0))).unwrap();
+            for way in ways {
+                for wanted in [format!("{way}-right 64"), format!("{way}-wrong 192")] {
+                    let line = format!("\npids {wanted}\n");
+                    assert!(counts.contains(&line), "{wanted} with seed {seed}");
+                }
+            }
         }
     }
 }

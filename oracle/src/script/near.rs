@@ -3,6 +3,7 @@
 use super::valid;
 use crate::filter::{Filter, Range};
 use crate::frame::{Id, Kind, CAN_EXTENDED, CAN_RESERVED};
+use crate::pid;
 use crate::random::Random;
 use crate::source::Source;
 
@@ -27,8 +28,8 @@ fn candidate(random: &mut Random, source: &Source) -> Id {
     match random.pick(&filters) {
         Filter::CanMask { mask, code } => can(masked(random, mask, code)),
         Filter::CanRange(range) => can(beside(random, range)),
-        Filter::LinMask { mask, code } => lin(masked(random, mask, code), random),
-        Filter::LinRange(range) => lin(beside(random, range), random),
+        Filter::LinMask { mask, code } => lin(masked(random, mask, code)),
+        Filter::LinRange(range) => lin(beside(random, range)),
         Filter::FlexRay {
             slots,
             cycles,
@@ -45,7 +46,7 @@ fn any_id(random: &mut Random, kind: Kind) -> Id {
     let any = random.next() as u32;
     match kind {
         Kind::Can => Id::Can(valid::can_key(random)),
-        Kind::Lin => lin(any, random),
+        Kind::Lin => lin(any),
         Kind::FlexRay => {
             let slot = random.pick(&[1, 2, 255, 256, 1_027, 2_046, 2_047, any % 2_048]);
             flexray(slot, any >> 16, random)
@@ -60,8 +61,8 @@ fn can(key: u32) -> Id {
     Id::Can(if standard { id & 0x4000_07ff } else { id })
 }
 
-fn lin(key: u32, random: &mut Random) -> Id {
-    Id::Lin(random.byte() & 0xc0 | key as u8 & 0x3f)
+fn lin(key: u32) -> Id {
+    Id::Lin(pid::of_id(key as u8 % pid::IDS))
 }
 
 fn flexray(slot: u32, cycle: u32, random: &mut Random) -> Id {

@@ -3,6 +3,7 @@
 use super::raw::{RawFrame, RawItem, CAN, FLAG_SETS, FLEXRAY, ID, KINDS, LIN, PAYLOAD, STATE};
 use super::sheet::Sheet;
 use crate::frame::LAST_SECOND;
+use crate::pid;
 use crate::random::Random;
 
 /// Seconds and nanoseconds at the edges: some reach the next second exactly with the offsets 1 and
@@ -94,7 +95,7 @@ fn state(random: &mut Random, kind: u8) -> u8 {
 fn id(random: &mut Random, kind: u8) -> Vec<u8> {
     match kind {
         CAN => can_key(random).to_be_bytes().to_vec(),
-        LIN => vec![random.byte()],
+        LIN => vec![pid::of_id(random.byte() % pid::IDS)],
         _ => flexray_id(random),
     }
 }

@@ -18,6 +18,7 @@ use Rattle.codec.specs.declared.ident.Ident.{Ident}
 use Rattle.codec.specs.declared.ident.Ident.the-variants as Ident
 use Rattle.codec.specs.declared.item.State.the-variants as State
 use Rattle.codec.proofs.BoolLaws.{and-l, and-r, or-true}
+use Rattle.codec.proofs.PidLaws.{pid-small}
 use Rattle.codec.proofs.Opened.{never}
 use Rattle.codec.proofs.ItemLaws.{most-small, flexray-in}
 use Rattle.bus.specs.Report.{canReport, linReport, flexrayReport, frameReport, conflictReport, offerOf}
@@ -71,15 +72,16 @@ means-can source t key n h e = record {
 pub means-lin : (source : ℕ) (t : Time) (pid bits n : ℕ) → linReport source t pid bits .ranged ≡ true → Means (errors bits) (Ident.Lin pid) (linReport source t pid bits) n
 unfolding linReport
 means-lin source t pid bits n e =
-    let p : pid ≤ 255 = leb-true pid 255 (and-l (leb pid 255) (leb bits 15) e) in
-    let q : bits ≤ 15 = leb-true bits 15 (and-r (leb pid 255) (leb bits 15) e) in
+    let k : identOk (Ident.Lin pid) ≡ true = and-l (identOk (Ident.Lin pid)) (leb bits 15) e in
+    let p : pid < 256 = pid-small pid k in
+    let q : bits ≤ 15 = leb-true bits 15 (and-r (identOk (Ident.Lin pid)) (leb bits 15) e) in
     let x : pid % 256 ≡ pid = omega arith in
     let y : bits % 256 ≡ bits = omega arith in
     record {
       bind = rw y (bind-errors bits (omega arith));
       ident = ap Ident.Lin x;
-      fits = omega arith;
-      ok = refl;
+      fits = p;
+      ok = k;
       load = λ k. le-leb n 8 k;
       set = refl;
       still = λ a z. refl;

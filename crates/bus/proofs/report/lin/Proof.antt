@@ -8,4 +8,5 @@ unfolding linReport
 lin-spec = tie.close (tie.spec
     (λ c κs. search needs)
     (λ c κs. search needs)
-    (λ c. rw (c .low82 .ensures, c .before .low8 .ensures)))
+    (λ c κs. search needs)
+    (λ c. rw (c .low82 .ensures, c .before .pid-ok .ensures, c .before .before .low8 .ensures)))

@@ -13,4 +13,5 @@ read-lin-spec =
     (λ c. search needs)
     (λ c. search needs)
     (λ c. simp (sym (c .before .before .get8 .ensures) ∙ c .enum-told .given .1))
-    (λ c. simp (sym (c .before .before .before .get8 .ensures) ∙ c .before .pid .given .1)))
+    (λ c κs. search needs)
+    (λ c. c .lin-ident .ensures ∙ simp (sym (c .before .before .before .before .get8 .ensures) ∙ c .before .before .pid .given .1)))
