@@ -1,8 +1,8 @@
 pub mod BoolLaws
-pub mod PidLaws
 pub mod TimeLaws
 pub mod NumberLaws
 pub mod ItemLaws
+pub mod PidLaws
 pub mod HeaderLaws
 pub mod FieldLaws
 pub mod Stands

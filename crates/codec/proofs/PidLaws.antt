@@ -5,12 +5,16 @@ use mathlib.Core.Bool.{Bool, true, false, not, _&&_}
 use mathlib.Core.Logic.{⊎-elim}
 use native.Mathlib.Nat.{le-of-suc-le-suc, eq-or-lt-of-le, not-suc-le-zero, mod-lt, div-one}
 use native.Mathlib.Omega.{arith}
+use lib.ListN.{length}
 use lib.Dec.{ltb, eqb}
 use lib.Bits.{bitAnd, bitOr, bitXor, and-mask, xor-mod, xor-lt, or-shifted}
 use borrow.Author.Tests.{eqb-true, eq-eqb, ne-eqb, ltb-true, ltb-false, not-true}
 use Rattle.codec.specs.Choice.{bit}
-use Rattle.codec.specs.Ident.{evenParity, oddParity, pidOk}
+use Rattle.codec.specs.Ident.{evenParity, oddParity, pidOk, identOk}
+use Rattle.codec.specs.Layout.{Entry, Valid}
+use Rattle.codec.specs.declared.ident.Ident.the-variants as Ident
 use Rattle.codec.proofs.BoolLaws.{and-l, and-r}
+use Rattle.codec.proofs.ItemLaws.{ok-ident}
 
 -- how many numbers below n pass a test
 abbrev pub count : (ℕ → Bool) → ℕ → ℕ
@@ -127,3 +131,9 @@ pub pid-of : (id : ℕ) → id < 64 → pidOk (pidOf id) ≡ true × (pidOf id %
 pid-of id h =
     let m : pidOf id % 64 ≡ id = omega arith in
     (pid-is (pidOf id) ∙ eq-eqb _ _ (sym (ap pidOf m)), m)
+
+-- a LIN item that may stand in a frame carries the PID of its id
+pub valid-pid : (e : Entry) (pid : ℕ) → Valid e → e .item .ident ≡ Ident.Lin pid → pid ≡ pidOf (pid % 64)
+valid-pid e pid v q =
+    let k : pidOk pid ≡ true = sym (ap identOk q) ∙ ok-ident (e .item) (length (e .payload)) (v .ok) in
+    eqb-true pid (pidOf (pid % 64)) (sym (pid-is pid) ∙ k)
