@@ -132,6 +132,17 @@ pid-of id h =
     let m : pidOf id % 64 ≡ id = omega arith in
     (pid-is (pidOf id) ∙ eq-eqb _ _ (sym (ap pidOf m)), m)
 
+-- one bit of a PID turned over always shows, computed for each PID and each bit
+turns : every (λ n. every (λ pid. not (pidOk pid && pidOk (bitXor pid (2 ^ n)))) 256) 8 ≡ true
+unfolding pidOk evenParity oddParity
+turns = refl
+
+pub turned-shows : (pid n : ℕ) → n < 8 → pidOk pid ≡ true → pidOk (bitXor pid (2 ^ n)) ≡ false
+turned-shows pid n h e =
+    let a = sweep (λ n. every (λ pid. not (pidOk pid && pidOk (bitXor pid (2 ^ n)))) 256) 8 turns n h in
+    let b = not-true _ (sweep (λ pid. not (pidOk pid && pidOk (bitXor pid (2 ^ n)))) 256 a pid (pid-small pid e)) in
+    ap (λ (t : Bool). t && pidOk (bitXor pid (2 ^ n))) (sym e) ∙ b
+
 -- a LIN item that may stand in a frame carries the PID of its id
 pub valid-pid : (e : Entry) (pid : ℕ) → Valid e → e .item .ident ≡ Ident.Lin pid → pid ≡ pidOf (pid % 64)
 valid-pid e pid v q =

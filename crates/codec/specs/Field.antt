@@ -90,7 +90,7 @@ canIdent key next =
 unfoldable pub readCan : List ℕ → ℕ → IdentRead
 readCan s at = open32 (get32Of s at) canIdent (IdentRead.Refused Refusal.Missing)
 
--- 29 parity
+-- 29 LIN parity
 unfoldable pub linIdent : ℕ → ℕ → IdentRead
 linIdent pid next = pick (pidOk pid) (IdentRead.Got (Ident.Lin pid) next) (IdentRead.Refused Refusal.Range)
 
