@@ -50,9 +50,12 @@ unfolding pidOk evenParity oddParity
 sixty-four = refl
 
 -- exactly one for each id
-pub one-each : (id : ℕ) → id < 64 → count (λ pid. pidOk pid && eqb (pid % 64) id) 256 ≡ 1
+abbrev pub pidsWith : ℕ → ℕ
+pidsWith id = count (λ pid. pidOk pid && eqb (pid % 64) id) 256
+
+pub one-each : (id : ℕ) → id < 64 → pidsWith id ≡ 1
 unfolding pidOk evenParity oddParity
-one-each id h = eqb-true _ _ (sweep (λ id. eqb (count (λ pid. pidOk pid && eqb (pid % 64) id) 256) 1) 64 refl id h)
+one-each id h = eqb-true (pidsWith id) 1 (sweep (λ id. eqb (pidsWith id) 1) 64 refl id h)
 
 -- P0 and P1 are bits
 even-small : (pid : ℕ) → evenParity pid < 2
@@ -108,7 +111,10 @@ pid-asked pid =
     rw (odd-asked pid, even-asked pid, e) (ap (eqb (pid / 64)) (or-shifted (oddParity pid) 1 (evenParity pid) (even-small pid)))
 
 -- the rule in arithmetic, computed for each of the 256 bytes
-bytes : every (λ pid. alike (pidOk pid) (eqb pid (pidOf (pid % 64)))) 256 ≡ true
+abbrev agrees : ℕ → Bool
+agrees pid = alike (pidOk pid) (eqb pid (pidOf (pid % 64)))
+
+bytes : every agrees 256 ≡ true
 unfolding pidOk evenParity oddParity
 bytes = refl
 
@@ -121,7 +127,7 @@ pid-is pid = go (ltb pid 256) refl
     away w false e = refl
 
     go : (b : Bool) → ltb pid 256 ≡ b → pidOk pid ≡ eqb pid (pidOf (pid % 64))
-    go true h = alike-true _ _ (sweep (λ pid. alike (pidOk pid) (eqb pid (pidOf (pid % 64)))) 256 bytes pid (ltb-true pid 256 h))
+    go true h = alike-true _ _ (sweep agrees 256 bytes pid (ltb-true pid 256 h))
     go false h =
         let w : 256 ≤ pid = ltb-false pid 256 h in
         away w (pidOk pid) refl ∙ sym (ne-eqb pid (pidOf (pid % 64)) (λ e. omega arith))
@@ -133,14 +139,17 @@ pid-of id h =
     (pid-is (pidOf id) ∙ eq-eqb _ _ (sym (ap pidOf m)), m)
 
 -- one bit of a PID turned over always shows, computed for each PID and each bit
-turns : every (λ n. every (λ pid. not (pidOk pid && pidOk (bitXor pid (2 ^ n)))) 256) 8 ≡ true
+abbrev shows : ℕ → ℕ → Bool
+shows n pid = not (pidOk pid && pidOk (bitXor pid (2 ^ n)))
+
+turns : every (λ n. every (shows n) 256) 8 ≡ true
 unfolding pidOk evenParity oddParity
 turns = refl
 
 pub turned-shows : (pid n : ℕ) → n < 8 → pidOk pid ≡ true → pidOk (bitXor pid (2 ^ n)) ≡ false
 turned-shows pid n h e =
-    let a = sweep (λ n. every (λ pid. not (pidOk pid && pidOk (bitXor pid (2 ^ n)))) 256) 8 turns n h in
-    let b = not-true _ (sweep (λ pid. not (pidOk pid && pidOk (bitXor pid (2 ^ n)))) 256 a pid (pid-small pid e)) in
+    let a = sweep (λ n. every (shows n) 256) 8 turns n h in
+    let b = not-true _ (sweep (shows n) 256 a pid (pid-small pid e)) in
     ap (λ (t : Bool). t && pidOk (bitXor pid (2 ^ n))) (sym e) ∙ b
 
 -- a LIN item that may stand in a frame carries the PID of its id
