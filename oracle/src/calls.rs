@@ -22,6 +22,14 @@ fn plain(result: Result<(), u8>) -> String {
     result.err().unwrap_or(0).to_string()
 }
 
+/// A clock that is not behind says nothing of itself.
+fn timed(result: Result<u32, u8>) -> String {
+    match result {
+        Ok(behind @ 1..) => format!("0 back {behind}"),
+        other => plain(other.map(|_| ())),
+    }
+}
+
 /// The other number beside a refusal is 0.
 fn numbered(result: Result<usize, u8>) -> String {
     match result {
@@ -56,13 +64,13 @@ fn switch_source(engine: &mut Engine, name: Word, words: &[Word]) -> Option<Stri
 
 fn report(engine: &mut Engine, name: Word, words: &[Word]) -> Option<String> {
     if let (b"tick", [seconds, nanos]) = (name, words) {
-        return Some(plain(engine.tick(time(seconds, nanos)?)));
+        return Some(timed(engine.tick(time(seconds, nanos)?)));
     }
     let [source, seconds, nanos, rest @ ..] = words else {
         return None;
     };
     let (source, time) = (number(source)?, time(seconds, nanos)?);
-    let mut call = |report: Report| Some(plain(engine.report(source, time, &report)));
+    let mut call = |report: Report| Some(timed(engine.report(source, time, &report)));
     match (name, rest) {
         (b"can", [key, payload]) => call(Report::can(number32(key)?, &bytes(payload)?)),
         (b"lin", [pid, errors, payload]) => call(Report::lin(

@@ -1,5 +1,6 @@
 //! How often a script gets each answer, so that a stored script can be held to a coverage.
 
+use crate::count_clock::Clock;
 use crate::count_pids::Pids;
 use crate::frame::{Header, Item, Kind};
 use crate::play::Player;
@@ -8,15 +9,17 @@ use crate::{reader, text};
 use std::collections::BTreeMap;
 
 /// `lines N`, `skipped N`, `bad N`, then `CALL ANSWER N` for each call and answer that occurred,
-/// then `taken WHAT N` for what the taken frames held, then the lines about PIDs.
+/// then `taken WHAT N` for what the taken frames held, then the lines about PIDs and about a clock
+/// that steps back.
 pub fn report(script: &[u8]) -> Vec<u8> {
     let mut player = Player::default();
     let (mut lines, mut skipped, mut bad) = (0usize, 0usize, 0usize);
     let mut counts: BTreeMap<(String, u32), usize> = BTreeMap::new();
     let mut taken = Taken::default();
-    let mut pids = Pids::default();
+    let (mut pids, mut clock) = (Pids::default(), Clock::default());
     for (i, line) in text::lines(script).enumerate() {
         lines += 1;
+        let before = player.engine().framer().clone();
         let Some(answer) = player.line(i + 1, line) else {
             skipped += 1;
             continue;
@@ -27,6 +30,7 @@ pub fn report(script: &[u8]) -> Vec<u8> {
             Ok(number) => {
                 taken.look(&call, &answer);
                 pids.look(line, number, player.engine());
+                clock.look(line, &answer, &before, player.engine().framer());
                 *counts.entry((call, number)).or_default() += 1;
             }
             Err(_) => bad += 1,
@@ -40,6 +44,7 @@ pub fn report(script: &[u8]) -> Vec<u8> {
         out.push_str(&format!("taken {what} {count}\n"));
     }
     out.push_str(&pids.report());
+    out.push_str(&clock.report());
     out.into_bytes()
 }
 

@@ -1,5 +1,5 @@
 //! The engine: each call with its causes in their order. A refusal is its answer number, and leaves
-//! everything as it was.
+//! everything as it was. A report and a tick say how many nanoseconds the clock was behind.
 
 use crate::cause;
 use crate::filter::Filter;
@@ -73,7 +73,7 @@ impl Engine {
     }
 
     /// Order 7, 2, 4, 3, 5, 6, 1, 8.
-    pub fn report(&mut self, number: u64, time: Time, report: &Report) -> Result<(), u8> {
+    pub fn report(&mut self, number: u64, time: Time, report: &Report) -> Result<u32, u8> {
         check_time(time)?;
         let source = find_started(&mut self.sources, number, report.kind)?;
         let id = passing_id(source, report)?;
@@ -81,6 +81,7 @@ impl Engine {
         if !self.framer.could_hold(&item) {
             return Err(cause::ITEM_TOO_LONG);
         }
+        let behind = self.framer.behind(time);
         source.reported = true;
         if let Some(bits) = report.bits {
             source.state.bind(bits);
@@ -88,7 +89,7 @@ impl Engine {
         let always_shown = report.always_shows_state();
         self.framer.add(item, &mut source.state, always_shown);
         source.state.unbind(report.bits.unwrap_or(0));
-        Ok(())
+        Ok(behind)
     }
 
     /// Order 2, 4, 3, 5. The byte is missing where the update is out of range.
@@ -98,9 +99,10 @@ impl Engine {
         Ok(())
     }
 
-    /// Rule 6.
-    pub fn tick(&mut self, time: Time) -> Result<(), u8> {
+    /// Rule 6. A state item may start a new frame: the clock is measured before that.
+    pub fn tick(&mut self, time: Time) -> Result<u32, u8> {
         check_time(time)?;
+        let behind = self.framer.behind(time);
         for source in &mut self.sources {
             if source.owes_state() {
                 let item = source.item(time, None, None);
@@ -109,7 +111,7 @@ impl Engine {
             source.reported = false;
         }
         self.framer.close_overdue(time);
-        Ok(())
+        Ok(behind)
     }
 
     /// Order 2, 4, 9, 10. The number is the filter's place.

@@ -4,6 +4,9 @@ use crate::frame::LAST_SECOND;
 use crate::pid;
 use crate::state;
 
+#[path = "clock_tests.rs"]
+mod clock;
+
 const CAN: (u32, u32) = (1, 5);
 const LIN: (u32, u32) = (2, 6);
 const FLEXRAY: (u32, u32) = (3, 7);
@@ -51,7 +54,7 @@ fn running(limits: Limits, networks: &[(u32, u32)]) -> Engine {
     engine
 }
 
-fn can(engine: &mut Engine, time: Time, key: u32, payload: &[u8]) -> Result<(), u8> {
+fn can(engine: &mut Engine, time: Time, key: u32, payload: &[u8]) -> Result<u32, u8> {
     engine.report(0, time, &Report::can(key, payload))
 }
 
@@ -121,7 +124,7 @@ fn p2_to_p5_offsets() {
 #[test]
 fn p6_what_fits_the_smallest_frame() {
     let mut engine = running(limits(32, 1, 0), &[CAN]);
-    assert_eq!(can(&mut engine, after(0), 1, &EIGHT), Ok(()));
+    assert_eq!(can(&mut engine, after(0), 1, &EIGHT), Ok(0));
     let nine = [EIGHT.as_slice(), &[9]].concat();
     assert_eq!(can(&mut engine, after(0), 0x4000_0001, &nine), Err(8));
 }
@@ -173,13 +176,13 @@ fn p9_the_closing_frame_is_discarded_and_the_next_item_tells() {
 #[test]
 fn run_ids_and_slots() {
     let mut engine = running(limits(64, 1, 0), &[CAN]);
-    assert_eq!(can(&mut engine, after(0), 2_047, &[]), Ok(()));
+    assert_eq!(can(&mut engine, after(0), 2_047, &[]), Ok(0));
     assert_eq!(can(&mut engine, after(0), 2_048, &[]), Err(5));
     assert_eq!(can(&mut engine, after(0), 0x4000_0800, &[]), Err(5));
-    assert_eq!(can(&mut engine, after(0), 0x8000_0800, &[]), Ok(()));
+    assert_eq!(can(&mut engine, after(0), 0x8000_0800, &[]), Ok(0));
     assert_eq!(can(&mut engine, after(0), 0xa000_0000, &[]), Err(5));
     let mut engine = running(limits(64, 1, 0), &[FLEXRAY]);
-    for (slot, expected) in [(0, Err(5)), (1, Ok(())), (2_047, Ok(())), (2_048, Err(5))] {
+    for (slot, expected) in [(0, Err(5)), (1, Ok(0)), (2_047, Ok(0)), (2_048, Err(5))] {
         let frame = Report::flexray(1, slot, 0, &[]);
         assert_eq!(engine.report(0, after(0), &frame), expected);
         let conflict = Report::conflict(2, slot, 0);
@@ -231,7 +234,7 @@ fn before_setup_there_are_no_sources() {
     assert_eq!(engine.add_filter(0, match_all(Kind::Lin)), Err(2));
     assert_eq!(engine.remove_filter(0, 0), Err(2));
     assert_eq!(engine.switch(limits(64, 1, 0)), Err(14));
-    assert_eq!(engine.tick(after(0)), Ok(()));
+    assert_eq!(engine.tick(after(0)), Ok(0));
     engine.offline();
     assert_eq!(engine.take(&mut []), Err(13));
     assert_eq!(engine.discards(), 0);
@@ -311,7 +314,7 @@ fn wrong_parity_has_the_place_of_answer_5() {
     let before = engine.clone();
     assert_eq!(engine.report(1, good, &wrong), Err(5));
     assert_eq!(engine, before);
-    assert_eq!(engine.report(1, good, &right), Ok(()));
+    assert_eq!(engine.report(1, good, &right), Ok(0));
 }
 
 #[test]
@@ -321,7 +324,7 @@ fn of_all_pids_the_right_ones_enter() {
     for pid in 0..=255 {
         let report = Report::lin(pid, 0, &[]);
         match engine.report(0, after(0), &report) {
-            Ok(()) => entered.push(pid as u8),
+            Ok(_) => entered.push(pid as u8),
             Err(cause) => assert_eq!(cause, 5, "{pid:#x}"),
         }
     }

@@ -38,6 +38,12 @@ impl Time {
         self.count() - earlier.count()
     }
 
+    /// Nanoseconds until a later time, cut at the most that 32 bits hold; 0 where it is not later.
+    pub fn nanos_before(self, later: Time) -> u32 {
+        let nanos = later.count().saturating_sub(self.count());
+        u32::try_from(nanos).unwrap_or(u32::MAX)
+    }
+
     /// Whole ticks since an earlier time.
     pub fn ticks_since(self, earlier: Time) -> u128 {
         self.nanos_since(earlier) / u128::from(NANOS_PER_TICK)
@@ -171,6 +177,28 @@ mod tests {
             nanos: 1_000_000_000,
         };
         assert!(!no_nanosecond.is_in_range());
+    }
+
+    #[test]
+    fn nanoseconds_before_a_time_are_cut_and_never_below_zero() {
+        let at = |seconds, nanos| Time { seconds, nanos };
+        let header = at(16, 5);
+        for (now, before) in [
+            (at(16, 6), 0),
+            (at(17, 0), 0),
+            (header, 0),
+            (at(16, 4), 1),
+            (at(15, 999_999_999), 6),
+            (at(15, 5), 1_000_000_000),
+            (at(11, 705_032_711), u32::MAX - 1),
+            (at(11, 705_032_710), u32::MAX),
+            (at(11, 705_032_709), u32::MAX),
+            (Time::default(), u32::MAX),
+        ] {
+            assert_eq!(now.nanos_before(header), before, "{now:?}");
+        }
+        assert_eq!(Time::default().nanos_before(LAST), u32::MAX);
+        assert_eq!(LAST.nanos_before(Time::default()), 0);
     }
 
     #[test]

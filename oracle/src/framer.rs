@@ -62,6 +62,13 @@ impl Framer {
         (!self.filling.is_empty()).then_some(self.header_time)
     }
 
+    /// How many nanoseconds a time lies before the header time of the frame being filled; an empty
+    /// one has no header, and nothing lies before it.
+    pub fn behind(&self, now: Time) -> u32 {
+        let header = self.filling_since();
+        header.map_or(0, |header| now.nanos_before(header))
+    }
+
     pub fn oldest_waiting(&self) -> Option<&[u8]> {
         self.waiting.front().map(Vec::as_slice)
     }

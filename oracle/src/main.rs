@@ -3,6 +3,7 @@
 mod calls;
 mod cause;
 mod count;
+mod count_clock;
 mod count_pids;
 mod engine;
 mod filter;

@@ -172,3 +172,43 @@ fn setup_takes_any_number_of_pairs() {
     assert_eq!(play(&pairs(1)), ["0"]);
     assert_eq!(play("setup 64 1"), ["? 1"]);
 }
+
+#[test]
+fn a_clock_behind_is_told_beside_the_answer() {
+    let script = "setup 64 8 1 1 5 2 6 3 7
+start 0
+start 1
+start 2
+can-mask 0 0 0
+lin-mask 1 0 0
+flexray-filter 2 0 2047 0 63 1
+can 0 16 5 1 -
+tick 16 4
+tick 16 5
+tick 16 1000000000
+can 0 16 4 1 -
+lin 1 16 0 0x7D 0 -
+lin 1 15 0 0x3D 0 -
+flexray 2 12 0 1 5 6 -
+conflict 2 11 999999999 1 5 6
+flexray 2 11 999999999 1 5 6 -
+tick 0 0
+tick 12 1000000
+can 0 0 0 1 -";
+    let expected = [
+        "0",
+        "0 back 1",
+        "0",
+        "7",
+        "0 back 1",
+        "0 back 4",
+        "5",
+        "0 back 4000000000",
+        "0 back 1",
+        "0",
+        "0 back 4294967295",
+        "0",
+        "0",
+    ];
+    assert_eq!(play(script)[7..], expected);
+}

@@ -8,15 +8,16 @@ use Rattle.codec.proofs.Opened.{never}
 use borrow.Author.Tests.{lt-ltb, le-ltb, le-leb, lt-leb, ltb-true, ltb-false, leb-true, leb-false}
 use Rattle.codec.specs.declared.time.Time.{Time}
 use Rattle.codec.specs.declared.time.Ticks.{Ticks}
+use Rattle.codec.specs.declared.time.Nanos.{Nanos}
 use Rattle.codec.specs.declared.time.Elapsed.{Elapsed}
 use Rattle.codec.specs.declared.time.Elapsed.the-variants as Elapsed
 use Rattle.codec.specs.declared.time.Span.{Span}
 use Rattle.codec.specs.declared.time.Span.the-variants as Span
-use Rattle.codec.specs.Time.{ns, millisOf, ticksOf, elapsed, spanOf, overdueOf, recoveredOf}
+use Rattle.codec.specs.Time.{ns, millisOf, ticksOf, behindBy, elapsed, spanOf, overdueOf, recoveredOf}
 
-pub back : (f t : ℕ) → t < f → Span.Backwards ≡ spanOf f t
+pub back : (f t n : ℕ) → t < f → n ≡ behindBy f t → Span.Backwards (record { 0 = n }) ≡ spanOf f t
 unfolding spanOf
-back f t h = simp (lt-ltb t f h)
+back f t n h e = rw e (simp (lt-ltb t f h))
 
 pub far : (f t : ℕ) → f + 100000000000 ≤ t → Span.Far ≡ spanOf f t
 unfolding spanOf
@@ -32,7 +33,10 @@ unfolding spanOf
 shift x y f t h = go (ltb y x) refl
   where
     go : (b : Bool) → ltb y x ≡ b → spanOf x y ≡ spanOf f t
-    go true e = let k : y < x = ltb-true y x e in simp (e, lt-ltb t f (omega arith))
+    go true e =
+        let k : y < x = ltb-true y x e in
+        let d : f - t ≡ x - y = omega arith in
+        simp (e, lt-ltb t f (omega arith), d)
     go false e =
         let k : x ≤ y = ltb-false y x e in
         let d : t - f ≡ y - x = omega arith in
@@ -42,12 +46,12 @@ shift x y f t h = go (ltb y x) refl
 abbrev pub measured : Span → Elapsed
 measured (Span.Nanos n) = ticksOf (n .0)
 measured Span.Far = Elapsed.TooFar
-measured Span.Backwards = Elapsed.Backwards
+measured (Span.Backwards n) = Elapsed.Backwards n
 
 abbrev pub due : ℕ → Span → Bool
 due d (Span.Nanos n) = leb 1 d && leb d (millisOf (n .0))
 due d Span.Far = leb 1 d
-due d Span.Backwards = false
+due d (Span.Backwards n) = false
 
 module _ (f t : ℕ) where
   pub by-span : (p : Span) → spanOf f t ≡ p → measured p ≡ elapsed f t
@@ -108,6 +112,20 @@ within f t k h = go (ltb t f) refl (leb ((t - f) / 10000) 65535) refl
         let z : (t - f) / 10000 ≡ k = ap (λ (x : Ticks). x .0) q in
         let o : f ≤ t = ltb-false t f e in
         omega arith
+    go false e false g = never (cc)
+
+-- backwards says how far, from 1 on; below the cut the later time is the number's distance from the earlier
+pub backwards-by : (f t n : ℕ) → elapsed f t ≡ Elapsed.Backwards (record { 0 = n }) → (n ≡ behindBy f t) × ((t < f) × ((1 ≤ n) × (n < 4294967295 → t + n ≡ f)))
+unfolding elapsed ticksOf
+backwards-by f t n h = go (ltb t f) refl (leb ((t - f) / 10000) 65535) refl
+  where
+    go : (b : Bool) → ltb t f ≡ b → (d : Bool) → leb ((t - f) / 10000) 65535 ≡ d → (n ≡ behindBy f t) × ((t < f) × ((1 ≤ n) × (n < 4294967295 → t + n ≡ f)))
+    go true e d g =
+        let q : _≡_ {A = Nanos} (record { 0 = behindBy f t }) (record { 0 = n }) = cc in
+        let z : behindBy f t ≡ n = ap (λ (x : Nanos). x .0) q in
+        let o : t < f = ltb-true t f e in
+        (sym z, (o, (omega arith, λ u. omega arith)))
+    go false e true g = never (cc)
     go false e false g = never (cc)
 
 -- the recovered time of an offset is the header time and that many ticks

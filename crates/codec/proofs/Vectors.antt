@@ -10,6 +10,8 @@ use Rattle.codec.specs.Field.{readFlags, readState, canIdent, flexrayIde
 use Rattle.codec.specs.Header.{readHeader}
 use Rattle.codec.specs.Time.{ns, elapsed, ticksOf, recoveredOf}
 use Rattle.codec.proofs.PidLaws.{pidOf}
+use Rattle.codec.specs.declared.time.Time.{Time}
+use Rattle.codec.specs.declared.time.Elapsed.{Elapsed}
 use Rattle.codec.specs.declared.time.Elapsed.the-variants as Elapsed
 use Rattle.codec.specs.declared.refusal.Refusal.the-variants as Refusal
 use Rattle.codec.specs.declared.ident.Kind.the-variants as Kind
@@ -97,9 +99,34 @@ over-the-second : elapsed (ns (record { sec = 9; nano = 999999000 })) (ns (recor
 unfolding elapsed ticksOf
 over-the-second = refl
 
-backwards : elapsed 1 0 ≡ Elapsed.Backwards
+backwards : elapsed 1 0 ≡ Elapsed.Backwards (record { 0 = 1 })
 unfolding elapsed ticksOf
 backwards = refl
+
+-- a clock that stands still, and one set back by 1 ns, by 4 ms, by the most that is told, one nanosecond less and one more; over a
+-- second's edge, the nanosecond field falling and rising; by 111 seconds; from the last moment to the first
+abbrev from : Time → Time → Elapsed
+from header now = elapsed (ns header) (ns now)
+
+abbrev at : ℕ → ℕ → Time
+at sec nano = record { sec = sec; nano = nano }
+
+abbrev by : ℕ → Elapsed
+by n = Elapsed.Backwards (record { 0 = n })
+
+steps-back :
+    (from (at 16 7) (at 16 7) ∷ from (at 16 1) (at 16 0) ∷ from (at 16 20000000) (at 16 16000000)
+    ∷ from (at 16 294967295) (at 12 0) ∷ from (at 16 294967294) (at 12 0) ∷ from (at 16 294967296) (at 12 0)
+    ∷ from (at 16 5) (at 15 3) ∷ from (at 16 3) (at 15 999999999) ∷ from (at 127 0) (at 16 0)
+    ∷ from (at 281474976710655 999999999) (at 0 0)
+    ∷ [])
+    ≡ Elapsed.Ticks (record { 0 = 0 }) ∷ by 1 ∷ by 4000000
+    ∷ by 4294967295 ∷ by 4294967294 ∷ by 4294967295
+    ∷ by 1000000002 ∷ by 4 ∷ by 4294967295
+    ∷ by 4294967295
+    ∷ []
+unfolding elapsed ticksOf
+steps-back = refl
 
 -- into the second after the last one that a header can hold
 past-the-last : recoveredOf (record { sec = 281474976710655; nano = 999990000 }) 1 ≡ record { sec = 281474976710656; nano = 0 }

@@ -28,13 +28,20 @@ ticksOf n = pick (leb (n / 10000) 65535) (Elapsed.Ticks (record { 0 = n / 10000 
 abbrev pub millisOf : ℕ → ℕ
 millisOf n = min (n / 1000000) 65535
 
--- the measure from a header time to a later one, both in nanoseconds (rules 1 and 2)
+-- how many nanoseconds t lies before f, cut at 4,294,967,295; 0 where it does not (docs/RULES.md, "A clock that steps back")
+abbrev pub behindBy : ℕ → ℕ → ℕ
+behindBy f t = min (f - t) 4294967295
+
+-- the measure from a header time to a reading of the clock, both in nanoseconds: ticks, too far, or backwards by so many
+-- nanoseconds (rules 1 and 2; "A clock that steps back")
 unfoldable pub elapsed : ℕ → ℕ → Elapsed
-elapsed f t = pick (ltb t f) Elapsed.Backwards (ticksOf (t - f))
+elapsed f t = pick (ltb t f) (Elapsed.Backwards (record { 0 = behindBy f t })) (ticksOf (t - f))
 
 -- the nanoseconds from f to t; from a hundred seconds on they are only far
 unfoldable pub spanOf : ℕ → ℕ → Span
-spanOf f t = pick (ltb t f) Span.Backwards (pick (ltb (t - f) 100000000000) (Span.Nanos (record { 0 = t - f })) Span.Far)
+spanOf f t =
+    pick (ltb t f) (Span.Backwards (record { 0 = behindBy f t }))
+    (pick (ltb (t - f) 100000000000) (Span.Nanos (record { 0 = t - f })) Span.Far)
 
 -- t is D milliseconds or more after f, and D is not 0 (rule 6)
 unfoldable pub overdueOf : ℕ → ℕ → ℕ → Bool

@@ -1,6 +1,6 @@
 // Times, and the three kinds of number that count them. A tick is ten microseconds.
 ghost use mathlib.Core.Path.{_≡_};
-ghost use Prim.Native.Nat.{_*_};
+ghost use Prim.Native.Nat.{_*_, min};
 ghost use Rattle.codec.specs.Number.{Below};
 ghost use Rattle.codec.specs.Time.{ns, timeOk, ticksOf, millisOf, spanOf, elapsed, overdueOf, recoveredOf};
 
@@ -15,17 +15,18 @@ pub struct Time {
     pub nano: u32,
 }
 
+// Backwards by so many nanoseconds, from 1 on.
 pub enum Elapsed {
     Ticks(Ticks),
     TooFar,
-    Backwards,
+    Backwards(Nanos),
 }
 
 // The time from one reading to another; past a hundred seconds no rule asks how long.
 enum Span {
     Nanos(Nanos),
     Far,
-    Backwards,
+    Backwards(Nanos),
 }
 
 pub fn in_range(t: Time) -> bool
@@ -69,6 +70,17 @@ pub fn nanos_of_millis(m: Millis) -> Nanos
     Nanos(m.0 as u64 * 1000000)
 }
 
+// The most that is told of a clock that stepped back.
+fn cut(n: Nanos) -> Nanos
+    ensures { λ r. ⌜ r .0 ≡ min (n .0) 4294967295 ⌝ }
+{
+    if n.0 <= 4294967295 {
+        n
+    } else {
+        Nanos(4294967295)
+    }
+}
+
 // Both counted from one second, so that the difference fits 64 bits.
 fn between(a: Nanos, b: Nanos) -> Span
     ensures { λ r. ⌜ r ≡ spanOf (a .0) (b .0) ⌝ }
@@ -76,7 +88,7 @@ fn between(a: Nanos, b: Nanos) -> Span
     let x = a.0;
     let y = b.0;
     if y < x {
-        return Span::Backwards;
+        return Span::Backwards(cut(Nanos(x - y)));
     }
     if y - x < 100000000000 {
         Span::Nanos(Nanos(y - x))
@@ -103,7 +115,7 @@ fn apart(from: Time, to: Time) -> Span
     } else {
         let d = s - t;
         if 110 < d {
-            return Span::Backwards;
+            return Span::Backwards(Nanos(4294967295));
         }
         between(
             Nanos(d * 1000000000 + from.nano as u64),
@@ -119,7 +131,7 @@ pub fn measure(from: Time, to: Time) -> Elapsed
     match apart(from, to) {
         Span::Nanos(n) => ticks_of_nanos(n),
         Span::Far => Elapsed::TooFar,
-        Span::Backwards => Elapsed::Backwards,
+        Span::Backwards(n) => Elapsed::Backwards(n),
     }
 }
 
@@ -134,7 +146,7 @@ pub fn overdue(from: Time, to: Time, deadline: Millis) -> bool
             (1 <= most) & (most <= m.0)
         }
         Span::Far => 1 <= most,
-        Span::Backwards => false,
+        Span::Backwards(_) => false,
     }
 }
 

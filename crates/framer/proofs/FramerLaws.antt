@@ -1,5 +1,5 @@
 -- Laws of the framer's definitions.
-use Prim.Native.Nat.{ℕ, _+_, _-_, _*_, _%_, _≤_, _<_}
+use Prim.Native.Nat.{ℕ, _+_, _-_, _*_, _/_, _%_, _≤_, _<_}
 use mathlib.Core.List.{List}
 use lib.ListN.{length, set, take, drop, replicate, length-take}
 use mathlib.Core.Path.{_≡_, refl, sym, _∙_}
@@ -9,7 +9,7 @@ use Rattle.codec.proofs.BoolLaws.{and-l, and-r}
 use native.Mathlib.Omega.{arith}
 use lib.Dec.{ltb, leb, eqb}
 use borrow.Author.Tests.{eq-eqb, ne-eqb, lt-ltb, le-ltb, ltb-true, ltb-false, lt-leb, le-leb, leb-true}
-use Rattle.codec.specs.Time.{ns, elapsed, overdueOf}
+use Rattle.codec.specs.Time.{ns, elapsed, ticksOf, behindBy, overdueOf}
 use Rattle.codec.specs.Item.{itemLength}
 use Rattle.codec.specs.declared.time.Time.{Time}
 use Rattle.framer.specs.declared.offer.Offer.{Offer}
@@ -17,7 +17,7 @@ use Rattle.framer.specs.declared.meter.Meter.{Meter}
 use Rattle.codec.specs.Number.{over, fits, Wrote}
 use Rattle.framer.specs.declared.queue.Queue.{Queue}
 use Rattle.framer.specs.Queue.{queued, lengthAt}
-use Rattle.framer.specs.Meter.{closesFor, isWithin, itemOf, soundMeter, Sound, startOf, closedMeter, slotOf, placedMeter, takenMeter, offsetFor}
+use Rattle.framer.specs.Meter.{closesFor, isWithin, backIn, itemOf, soundMeter, Sound, startOf, closedMeter, slotOf, placedMeter, takenMeter, offsetFor}
 use Rattle.framer.specs.Framer.{closed, begun, laidOut, itemSize, filledMeter, filledBytes, placed, added, add, passed, notTaken, takeOf, outOf}
 use Rattle.framer.specs.declared.framer.Framer.{Framer}
 use Rattle.codec.specs.declared.item.Item.{Item}
@@ -50,6 +50,16 @@ pub closes-by : (m : Meter) (t : Time) (o : Offer) (n k : ℕ) → (m .filled �
     → k ≡ itemLength (itemOf (m .lost) (record { 0 = 0 }) o) n → ltb (m .size - m .filled) k ≡ closesFor m t o n
 unfolding closesFor
 closes-by m t o n k e w h g = rw (ne-eqb (m .filled) 0 e, w, ← g) (shift (m .size) (m .filled) k h)
+
+-- what is told of the measure is how far the clock is behind, and 0 where it is not
+pub back-by : (f t : ℕ) → backIn (elapsed f t) .0 ≡ behindBy f t
+unfolding elapsed ticksOf
+back-by f t = go (ltb t f) refl (leb ((t - f) / 10000) 65535) refl
+  where
+    go : (b : Bool) → ltb t f ≡ b → (d : Bool) → leb ((t - f) / 10000) 65535 ≡ d → backIn (elapsed f t) .0 ≡ behindBy f t
+    go true e d g = rw e
+    go false e true g = let h : f ≤ t = ltb-false t f e in rw (e, g) (omega arith)
+    go false e false g = let h : f ≤ t = ltb-false t f e in rw (e, g) (omega arith)
 
 -- the ring of eight slots
 pub next-slot : (n : ℕ) → (n % 8 + 1) % 8 ≡ (n + 1) % 8

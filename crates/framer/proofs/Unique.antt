@@ -3,6 +3,7 @@ use mathlib.Core.Path.{_≡_, sym, _∙_}
 use denote.Ref.{now}
 use Rattle.framer.proofs.meter.sound.Reads as sound
 use Rattle.framer.proofs.meter.limits_ok.Reads as limits-ok
+use Rattle.framer.proofs.meter.back_for.Reads as back-for
 use Rattle.framer.proofs.framer.empty.Reads as empty
 use Rattle.framer.proofs.framer.Framer.add.Reads as add
 use Rattle.framer.proofs.framer.Framer.pass.Reads as pass
@@ -13,6 +14,9 @@ sound-unique κs a r r′ x x′ p q = p ∙ sym q
 
 pub limits-ok-unique : (κs : _) (a : _) (r r′ : _) (x x′ : _) → limits-ok.Post κs a r x → limits-ok.Post κs a r′ x′ → r ≡ r′
 limits-ok-unique κs a r r′ x x′ p q = p ∙ sym q
+
+pub back-for-unique : (κs : _) (a : _) (r r′ : _) (x x′ : _) → back-for.Post κs a r x → back-for.Post κs a r′ x′ → r ≡ r′
+back-for-unique κs a r r′ x x′ p q = p ∙ sym q
 
 pub empty-unique : (κs : _) (a : _) (r r′ : _) (x x′ : _) → empty.Post κs a r x → empty.Post κs a r′ x′ → r ≡ r′
 empty-unique κs a r r′ x x′ p q = p ∙ sym q

@@ -10,6 +10,7 @@ use Rattle.codec.specs.Item.{itemLength}
 use Rattle.codec.specs.declared.time.Time.{Time}
 use Rattle.codec.specs.declared.time.Ticks.{Ticks}
 use Rattle.codec.specs.declared.time.Millis.{Millis}
+use Rattle.codec.specs.declared.time.Nanos.{Nanos}
 use Rattle.codec.specs.declared.time.Elapsed.{Elapsed}
 use Rattle.codec.specs.declared.time.Elapsed.the-variants as Elapsed
 use Rattle.codec.specs.declared.item.State.{State}
@@ -63,12 +64,18 @@ emptyMeter size room deadline = record {
 abbrev pub isWithin : Elapsed → Bool
 isWithin (Elapsed.Ticks t) = true
 isWithin Elapsed.TooFar = false
-isWithin Elapsed.Backwards = false
+isWithin (Elapsed.Backwards n) = false
 
 abbrev pub ticksIn : Elapsed → Ticks
 ticksIn (Elapsed.Ticks t) = t
 ticksIn Elapsed.TooFar = record { 0 = 0 }
-ticksIn Elapsed.Backwards = record { 0 = 0 }
+ticksIn (Elapsed.Backwards n) = record { 0 = 0 }
+
+-- how far the clock is behind the header
+abbrev pub backIn : Elapsed → Nanos
+backIn (Elapsed.Ticks t) = record { 0 = 0 }
+backIn Elapsed.TooFar = record { 0 = 0 }
+backIn (Elapsed.Backwards n) = n
 
 -- the state is shown where it is due or lost is pending, which sets bit 7 (rule 4)
 unfoldable pub stateShown : Bool → Offer → State
@@ -81,6 +88,11 @@ itemOf lost offset o =
 -- 0 in an empty frame, else the ticks since the header time (rule 1)
 unfoldable pub offsetFor : Meter → Time → Ticks
 offsetFor m t = pick (eqb (m .filled) 0) (record { 0 = 0 }) (ticksIn (elapsed (ns (m .time)) (ns t)))
+
+-- how many nanoseconds t lies before the header time of the frame being filled, cut at 4,294,967,295; an empty frame tells
+-- nothing (docs/RULES.md, "A clock that steps back")
+unfoldable pub backFor : Meter → Time → Nanos
+backFor m t = pick (eqb (m .filled) 0) (record { 0 = 0 }) (backIn (elapsed (ns (m .time)) (ns t)))
 
 -- close, unless it is empty, if t precedes the header time, the offset would pass 65,535, or the item doesn't fit in F (rule 2)
 unfoldable pub closesFor : Meter → Time → Offer → ℕ → Bool

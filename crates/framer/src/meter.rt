@@ -4,11 +4,12 @@ use codec::item::Item;
 use codec::item::State;
 use codec::time::Elapsed;
 use codec::time::Millis;
+use codec::time::Nanos;
 use codec::time::Ticks;
 use codec::time::Time;
 ghost use mathlib.Core.Path.{_≡_};
 ghost use Rattle.codec.specs.Number.{Below};
-ghost use Rattle.framer.specs.Meter.{soundMeter, limitsOk, emptyMeter, isWithin, ticksIn, stateShown, itemOf, offsetFor, closesFor, slotOf, counted, closedMeter, takenMeter};
+ghost use Rattle.framer.specs.Meter.{soundMeter, limitsOk, emptyMeter, isWithin, ticksIn, backIn, stateShown, itemOf, offsetFor, backFor, closesFor, slotOf, counted, closedMeter, takenMeter};
 
 pub struct Meter {
     // frame size F, queue room Q and deadline D
@@ -73,7 +74,7 @@ fn is_within(e: Elapsed) -> bool
     match e {
         Elapsed::Ticks(_) => true,
         Elapsed::TooFar => false,
-        Elapsed::Backwards => false,
+        Elapsed::Backwards(_) => false,
     }
 }
 
@@ -83,7 +84,17 @@ fn ticks_in(e: Elapsed) -> Ticks
     match e {
         Elapsed::Ticks(t) => t,
         Elapsed::TooFar => Ticks(0),
-        Elapsed::Backwards => Ticks(0),
+        Elapsed::Backwards(_) => Ticks(0),
+    }
+}
+
+fn back_in(e: Elapsed) -> Nanos
+    ensures { λ r. ⌜ r ≡ backIn e ⌝ }
+{
+    match e {
+        Elapsed::Ticks(_) => Nanos(0),
+        Elapsed::TooFar => Nanos(0),
+        Elapsed::Backwards(n) => n,
     }
 }
 
@@ -121,6 +132,16 @@ fn offset_for(m: Meter, t: Time) -> Ticks
         return Ticks(0);
     }
     ticks_in(codec::time::measure(m.time, t))
+}
+
+// How far a clock that reads t stands behind the header time; an empty frame has none to be behind.
+pub fn back_for(m: Meter, t: Time) -> Nanos
+    ensures { λ r. ⌜ r ≡ backFor m t ⌝ }
+{
+    if m.filled == 0 {
+        return Nanos(0);
+    }
+    back_in(codec::time::measure(m.time, t))
 }
 
 // The item that the frame gets at time t, as things stand.

@@ -5,3 +5,4 @@ pub mod TakeLaws
 pub mod DeedLaws
 pub mod MarkLaws
 pub mod FrameLaws
+pub mod ClockLaws

@@ -28,6 +28,7 @@ use Rattle.history.specs.Account.{Account, Event}
 use Rattle.history.specs.Ledger.{Limits, Line, Frame, Closed, Ledger, emptyLedger, Op, stepL, runL, itemIn, entryIn, sizeIn, total, discardCount, takenIn, waitingIn, offsetIn, lineFor, linesIn, fillingIn}
 use Rattle.history.specs.Ledger as Op
 use Rattle.history.specs.Deed.{Deed, deedsOf, done, eventsOn, opsOn, ledgerOf}
+use Rattle.history.specs.Clock.{tellsBy, saysBy}
 
 -- an id and a payload of the machine's types: a CAN key is below 2^32, a payload's numbers are bytes
 abbrev pub KeyFits : Ident → Type 0
@@ -155,6 +156,8 @@ pub record History (c : Limits) (book : List Account) (ds : List Deed) (l : Ledg
   pub marks : Marks false (l .closed) (l .filling .lines)
   -- f: no call answers 19
   pub answers : All (λ (d : Deed). d .said .answer ≡ 19 → ⊥) ds
+  -- g: at each moment a report or a tick tells how far its time lies before the frame being filled as it found it
+  pub tells : (before after : List Deed) (d : Deed) → ds ≡ before ++ (d ∷ after) → saysBy d ≡ tellsBy (ledgerOf c book before) d
 
 -- setup with the limits c and a list of kinds and ids
 abbrev pub setUp : Engine → Limits → List ℕ → Step

@@ -2,5 +2,6 @@ pub mod Meaning
 pub mod Account
 pub mod Ledger
 pub mod Deed
+pub mod Clock
 pub mod History
 pub mod Again

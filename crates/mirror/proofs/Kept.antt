@@ -25,7 +25,7 @@ use Rattle.bus.specs.declared.report.Report.{Report}
 use Rattle.bus.specs.declared.update.Update.{Update}
 use Rattle.bus.specs.declared.filter.Addition.{Addition}
 use Rattle.bus.proofs.BusLaws.{cause-passed}
-use Rattle.mirror.specs.Engine.{freshEngine, soundOf, causeOf, answered, sourceAt, withSource, noSource}
+use Rattle.mirror.specs.Engine.{freshEngine, soundOf, causeOf, answered, timed, sourceAt, withSource, noSource}
 use Rattle.mirror.specs.Setup.{sourcesOk, setupOf, resetOf, switchOf, offlineOf}
 use Rattle.mirror.specs.Source.{startOf, stopOf, updateOf, addOf, removeOf}
 use Rattle.mirror.specs.Report.{reported, reportOf}
@@ -76,7 +76,7 @@ reported-sound e r payload s c =
     (kept-add (e .framer) (r .time) (offerOf (sourceAt e (r .source)) r) payload (metered e s) (p .time) (omega (arith, p .fits)))
 
 report-sound : (e : Engine) (r : Report) (payload : List ℕ) → soundOf e ≡ true → soundOf (reportOf e r payload .engine) ≡ true
-unfolding reportOf
+unfolding reportOf timed
 report-sound e r payload s = answered-sound e (reported e r payload) _ s (reported-sound e r payload s)
 
 -- state updates, filters, starting and stopping leave the framer as it is
@@ -133,7 +133,7 @@ in-time true e = refl
 in-time false e = let z : ⊥ = omega arith in absurd z
 
 tick-sound : (e : Engine) (t : Time) → soundOf e ≡ true → soundOf (tickOf e t .engine) ≡ true
-unfolding tickOf
+unfolding tickOf timed
 tick-sound e t s = answered-sound e (ticked e t) _ s (λ z. ticked-sound e t s (in-time (timeOk t) z))
 
 -- taking

@@ -13,6 +13,7 @@ use Rattle.codec.proofs.BoolLaws.{and-l}
 use Rattle.framer.proofs.KeptLaws.{limits}
 use Rattle.codec.specs.declared.time.Time.{Time}
 use Rattle.codec.specs.declared.time.Millis.{Millis}
+use Rattle.codec.specs.declared.time.Nanos.{Nanos}
 use Rattle.framer.specs.Meter.{limitsOk, soundMeter}
 use Rattle.framer.specs.Framer.{emptyFramer, add, passed}
 use Rattle.framer.specs.declared.framer.Framer.{Framer}
@@ -22,7 +23,7 @@ use Rattle.bus.specs.Report.{offerOf, settled}
 use Rattle.bus.specs.declared.source.Source.{Source}
 use Rattle.bus.specs.declared.filter.Addition.{Addition}
 use Rattle.bus.specs.declared.report.Report.{Report}
-use Rattle.mirror.specs.Engine.{soundOf, causeOf, answered, indexOf, noSource, noSources, sourceAt, withSource}
+use Rattle.mirror.specs.Engine.{soundOf, causeOf, answered, timed, indexOf, noSource, noSources, sourceAt, withSource}
 use Rattle.mirror.specs.Setup.{sourceNumbered, pairOk, namedAgain, pairsOk, sourcesOk, named, setupOf, resetOf, switchOf, offlineOf}
 use Rattle.mirror.specs.Source.{storedOf, addOf}
 use Rattle.mirror.specs.Report.{reported}
@@ -44,6 +45,25 @@ pub done : (e : Engine) (cause : ℕ) (after x : Engine) → soundOf e ≡ true 
     → record { engine = x; answer = 0 } ≡ answered e (causeOf e cause) after
 unfolding causeOf answered
 done e cause after x s g n = rw (s, g, n)
+
+-- the same beside what a report or a tick tells of the clock
+quiet : (e : Engine) (o : Outcome) (c : ℕ) (back : Nanos) → record { engine = e; answer = c } ≡ o → (c ≡ 0 → ⊥)
+    → record { engine = e; answer = c; back = record { 0 = 0 } } ≡ timed o back
+unfolding timed
+quiet e o c back q n = rw (← q) (rw (ne-eqb c 0 n))
+
+pub timed-unsound : (e : Engine) (cause : ℕ) (after : Engine) (back : Nanos) → soundOf e ≡ false
+    → record { engine = e; answer = 19; back = record { 0 = 0 } } ≡ timed (answered e (causeOf e cause) after) back
+timed-unsound e cause after back s = quiet e _ 19 back (unsound e cause after s) (λ z. omega arith)
+
+pub timed-refused : (e : Engine) (cause c : ℕ) (after : Engine) (back : Nanos) → soundOf e ≡ true → c ≡ cause → (c ≡ 0 → ⊥)
+    → record { engine = e; answer = c; back = record { 0 = 0 } } ≡ timed (answered e (causeOf e cause) after) back
+timed-refused e cause c after back s g n = quiet e _ c back (refused e cause c after s g n) n
+
+pub timed-done : (e : Engine) (cause : ℕ) (after x : Engine) (back b : Nanos) → soundOf e ≡ true → cause ≡ 0 → x ≡ after → b ≡ back
+    → record { engine = x; answer = 0; back = b } ≡ timed (answered e (causeOf e cause) after) back
+unfolding timed
+timed-done e cause after x back b s g n z = rw (← done e cause after x s g n, z)
 
 -- reports
 pub reported-by : (e : Engine) (r : Report) (payload : List ℕ) (k : ℕ) (s x : Source) (o : Offer) (w : Framer) → k ≡ indexOf (r .source)

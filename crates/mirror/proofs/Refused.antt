@@ -7,9 +7,11 @@ use mathlib.Core.List.{List, []}
 use native.Mathlib.Omega.{arith}
 use lib.ListN.{length, getD}
 use lib.Dec.{leb, ltb, eqb}
+use borrow.Author.Tests.{ne-eqb}
 use Rattle.codec.specs.Choice.{pick}
 use Rattle.codec.specs.Time.{timeOk}
 use Rattle.codec.specs.Ident.{kindOf, mostOf}
+use Rattle.codec.specs.declared.time.Nanos.{Nanos}
 use Rattle.mirror.proofs.Kept.{metered}
 use Rattle.framer.specs.Meter.{soundMeter, limitsOk}
 use Rattle.framer.specs.Queue.{lengthAt}
@@ -23,7 +25,7 @@ use Rattle.bus.specs.declared.source.Source.{Source}
 use Rattle.bus.specs.declared.report.Report.{Report}
 use Rattle.bus.specs.declared.update.Update.{Update}
 use Rattle.bus.specs.declared.filter.Addition.{Addition}
-use Rattle.mirror.specs.Engine.{soundOf, causeOf, answered, sourceCause, sourceAt, withSource, discardsOf}
+use Rattle.mirror.specs.Engine.{soundOf, causeOf, answered, timed, sourceCause, sourceAt, withSource, discardsOf}
 use Rattle.mirror.specs.Setup.{setupOf, switchOf, offlineOf, sourcesOk}
 use Rattle.mirror.specs.Source.{startOf, stopOf, updateOf, addOf, removeOf}
 use Rattle.mirror.specs.Report.{reportOf}
@@ -73,6 +75,11 @@ plainly e after cause n = go (eqb cause 0) refl
     go false q = rw q
     go true q = let z : ⊥ = n (rw q) in absurd z
 
+-- a refused report or tick tells nothing of the clock
+quiet : (e after : Engine) (cause : ℕ) (back : Nanos) → (answered e cause after .answer ≡ 0 → ⊥) → timed (answered e cause after) back .back .0 ≡ 0
+unfolding timed
+quiet e after cause back n = rw (ne-eqb (answered e cause after .answer) 0 n)
+
 added : (e : Engine) (a : Addition) → (addOf e a .answer ≡ 0 → ⊥) → (addOf e a .engine ≡ e) × (addOf e a .number ≡ 0)
 unfolding addOf
 added e a n = go (eqb (causeOf e (addCause (e .count) (sourceAt e (a .source)) a)) 0) refl
@@ -114,16 +121,16 @@ counted e n = go (soundOf e) refl
 
 -- a refused call leaves everything as it was
 pub refused-keeps : (e : Engine) (c : Call) → (stepOf e c .said .answer ≡ 0 → ⊥) → Untouched e c (stepOf e c)
-unfolding setupOf switchOf offlineOf startOf stopOf reportOf updateOf removeOf tickOf
+unfolding setupOf switchOf offlineOf startOf stopOf reportOf updateOf removeOf tickOf timed
 refused-keeps e (Call.setup size room deadline pairs) n = record { engine = plainly e _ _ n; number = refl; output = refl }
 refused-keeps e (Call.switch size room deadline) n = record { engine = plainly e _ _ n; number = refl; output = refl }
 refused-keeps e Call.offline n = record { engine = plainly e _ _ n; number = refl; output = refl }
 refused-keeps e (Call.start source) n = record { engine = plainly e _ _ n; number = refl; output = refl }
 refused-keeps e (Call.stop source) n = record { engine = plainly e _ _ n; number = refl; output = refl }
-refused-keeps e (Call.can source t key payload) n = record { engine = plainly e _ _ n; number = refl; output = refl }
-refused-keeps e (Call.lin source t pid errors payload) n = record { engine = plainly e _ _ n; number = refl; output = refl }
-refused-keeps e (Call.flexray source t channels slot cycle payload) n = record { engine = plainly e _ _ n; number = refl; output = refl }
-refused-keeps e (Call.conflict source t channels slot cycle) n = record { engine = plainly e _ _ n; number = refl; output = refl }
+refused-keeps e (Call.can source t key payload) n = record { engine = plainly e _ _ n; number = quiet e _ _ _ n; output = refl }
+refused-keeps e (Call.lin source t pid errors payload) n = record { engine = plainly e _ _ n; number = quiet e _ _ _ n; output = refl }
+refused-keeps e (Call.flexray source t channels slot cycle payload) n = record { engine = plainly e _ _ n; number = quiet e _ _ _ n; output = refl }
+refused-keeps e (Call.conflict source t channels slot cycle) n = record { engine = plainly e _ _ n; number = quiet e _ _ _ n; output = refl }
 refused-keeps e (Call.can-state source online passive busOff counter) n = record { engine = plainly e _ _ n; number = refl; output = refl }
 refused-keeps e (Call.lin-state source online) n = record { engine = plainly e _ _ n; number = refl; output = refl }
 refused-keeps e (Call.flexray-state source online bits) n = record { engine = plainly e _ _ n; number = refl; output = refl }
@@ -133,7 +140,7 @@ refused-keeps e (Call.lin-mask source mask code) n = let z = added e _ n in reco
 refused-keeps e (Call.lin-range source lower upper) n = let z = added e _ n in record { engine = z .0; number = z .1; output = refl }
 refused-keeps e (Call.slots source low high lowCycle highCycle repetition) n = let z = added e _ n in record { engine = z .0; number = z .1; output = refl }
 refused-keeps e (Call.remove source number) n = record { engine = plainly e _ _ n; number = refl; output = refl }
-refused-keeps e (Call.tick t) n = record { engine = plainly e _ _ n; number = refl; output = refl }
+refused-keeps e (Call.tick t) n = record { engine = plainly e _ _ n; number = quiet e _ _ _ n; output = refl }
 refused-keeps e (Call.take out) n = let z = taken e out n in record { engine = z .0; number = z .1; output = z .2 }
 refused-keeps e Call.discards n = record { engine = refl; number = counted e n; output = refl }
 
@@ -227,7 +234,7 @@ unfolding takenOf
 taken-below e n s = rw s (took-below (e .framer) n (metered e s))
 
 pub broken : (e : Engine) (c : Call) → soundOf e ≡ false → stepOf e c .said .answer ≡ 19
-unfolding setupOf switchOf offlineOf startOf stopOf reportOf updateOf removeOf tickOf discardsOf
+unfolding setupOf switchOf offlineOf startOf stopOf reportOf updateOf removeOf tickOf timed discardsOf
 broken e (Call.setup size room deadline pairs) s = plainly-19 e _ _ s
 broken e (Call.switch size room deadline) s = plainly-19 e _ _ s
 broken e Call.offline s = plainly-19 e _ _ s
@@ -251,7 +258,7 @@ broken e (Call.take out) s = taken-19 e (length out) s
 broken e Call.discards s = rw s
 
 pub not-broken : (e : Engine) (c : Call) → soundOf e ≡ true → stepOf e c .said .answer < 19
-unfolding setupOf switchOf offlineOf startOf stopOf reportOf updateOf removeOf tickOf discardsOf
+unfolding setupOf switchOf offlineOf startOf stopOf reportOf updateOf removeOf tickOf timed discardsOf
 not-broken e (Call.setup size room deadline pairs) s = plainly-below e _ _ s (below (eqb (e .count) 0 && limitsOk size room deadline && sourcesOk pairs) 0 14 (omega arith) (omega arith))
 not-broken e (Call.switch size room deadline) s = plainly-below e _ _ s (below (not (eqb (e .count) 0) && limitsOk size room deadline) 0 14 (omega arith) (omega arith))
 not-broken e Call.offline s = plainly-below e _ _ s (omega arith)

@@ -16,6 +16,7 @@ use Rattle.mirror.specs.Tick.{tickOf}
 use Rattle.mirror.specs.Take.{takenOf, outputOf}
 use Rattle.mirror.specs.declared.engine.Engine.{Engine}
 use Rattle.mirror.specs.declared.engine.Outcome.{Outcome}
+use Rattle.mirror.specs.declared.engine.Timed.{Timed}
 use Rattle.mirror.specs.declared.source.Added.{Added}
 
 -- a call with its arguments; a take has the output that is lent
@@ -42,8 +43,8 @@ pub data Call : Type 0 where
   take : List ℕ → Call
   discards : Call
 
--- what a call says: the answer's number, the number beside it (a filter's, a frame's length, the discard count), and the
--- output after it
+-- what a call says: the answer's number, the number beside it (a filter's, a frame's length, the discard count, the nanoseconds
+-- that the clock was behind), and the output after it
 pub record Said : Type 0 where
   pub answer : ℕ
   pub number : ℕ
@@ -59,16 +60,19 @@ plain o = record { engine = o .engine; said = record { answer = o .answer; numbe
 abbrev numbered : Added → Step
 numbered a = record { engine = a .engine; said = record { answer = a .answer; number = a .number; output = [] } }
 
+abbrev clocked : Timed → Step
+clocked o = record { engine = o .engine; said = record { answer = o .answer; number = o .back .0; output = [] } }
+
 abbrev pub stepOf : Engine → Call → Step
 stepOf e (setup size room deadline pairs) = plain (setupOf e size room deadline pairs)
 stepOf e (switch size room deadline) = plain (switchOf e size room deadline)
 stepOf e offline = plain (offlineOf e)
 stepOf e (start source) = plain (startOf e source)
 stepOf e (stop source) = plain (stopOf e source)
-stepOf e (can source t key payload) = plain (reportOf e (canReport source t key) payload)
-stepOf e (lin source t pid errors payload) = plain (reportOf e (linReport source t pid errors) payload)
-stepOf e (flexray source t channels slot cycle payload) = plain (reportOf e (frameReport source t channels slot cycle) payload)
-stepOf e (conflict source t channels slot cycle) = plain (reportOf e (conflictReport source t channels slot cycle) [])
+stepOf e (can source t key payload) = clocked (reportOf e (canReport source t key) payload)
+stepOf e (lin source t pid errors payload) = clocked (reportOf e (linReport source t pid errors) payload)
+stepOf e (flexray source t channels slot cycle payload) = clocked (reportOf e (frameReport source t channels slot cycle) payload)
+stepOf e (conflict source t channels slot cycle) = clocked (reportOf e (conflictReport source t channels slot cycle) [])
 stepOf e (can-state source online passive busOff counter) = plain (updateOf e (canUpdate source online passive busOff counter))
 stepOf e (lin-state source online) = plain (updateOf e (linUpdate source online))
 stepOf e (flexray-state source online bits) = plain (updateOf e (flexrayUpdate source online bits))
@@ -78,7 +82,7 @@ stepOf e (lin-mask source mask code) = numbered (addOf e (linMask source mask co
 stepOf e (lin-range source lower upper) = numbered (addOf e (linRange source lower upper))
 stepOf e (slots source low high lowCycle highCycle repetition) = numbered (addOf e (slotsOf source low high lowCycle highCycle repetition))
 stepOf e (remove source number) = plain (removeOf e source number)
-stepOf e (tick t) = plain (tickOf e t)
+stepOf e (tick t) = clocked (tickOf e t)
 stepOf e (take out) = record {
   engine = takenOf e (length out) .engine;
   said = record { answer = takenOf e (length out) .answer; number = takenOf e (length out) .length; output = outputOf e out };

@@ -5,6 +5,7 @@ use mathlib.Core.List.{List, []}
 use lib.ListN.{getD, set, replicate}
 use lib.Dec.{ltb, leb, eqb}
 use Rattle.codec.specs.Choice.{pick}
+use Rattle.codec.specs.declared.time.Nanos.{Nanos}
 use Rattle.codec.specs.declared.ident.Kind.the-variants as Kind
 use Rattle.framer.specs.Meter.{soundMeter}
 use Rattle.framer.specs.Framer.{emptyFramer}
@@ -13,6 +14,7 @@ use Rattle.bus.specs.Source.{freshSource}
 use Rattle.bus.specs.declared.source.Source.{Source}
 use Rattle.mirror.specs.declared.engine.Engine.{Engine}
 use Rattle.mirror.specs.declared.engine.Outcome.{Outcome}
+use Rattle.mirror.specs.declared.engine.Timed.{Timed}
 use Rattle.mirror.specs.declared.engine.Counted.{Counted}
 
 unfoldable pub noSources : List Source
@@ -33,6 +35,10 @@ causeOf e cause = pick (soundOf e) cause 19
 -- every nonzero answer leaves the state unchanged
 unfoldable pub answered : Engine → ℕ → Engine → Outcome
 answered e cause done = pick (eqb cause 0) (record { engine = done; answer = 0 }) (record { engine = e; answer = cause })
+
+-- the same with what it tells of the clock, which is 0 beside a refusal (docs/RULES.md, "A clock that steps back")
+unfoldable pub timed : Outcome → Nanos → Timed
+timed o back = record { engine = o .engine; answer = o .answer; back = pick (eqb (o .answer) 0) back (record { 0 = 0 }) }
 
 -- no such source (answer 2)
 unfoldable pub sourceCause : Engine → ℕ → ℕ → ℕ

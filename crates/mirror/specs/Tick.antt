@@ -6,11 +6,12 @@ use lib.ListN.{getD, set}
 use Rattle.codec.specs.Choice.{pick}
 use Rattle.codec.specs.Time.{timeOk}
 use Rattle.codec.specs.declared.time.Time.{Time}
+use Rattle.framer.specs.Meter.{backFor}
 use Rattle.framer.specs.Framer.{add, passed}
 use Rattle.bus.specs.Source.{tickDue, stateOffer, calmed}
-use Rattle.mirror.specs.Engine.{causeOf, answered, noSource}
+use Rattle.mirror.specs.Engine.{causeOf, answered, timed, noSource}
 use Rattle.mirror.specs.declared.engine.Engine.{Engine}
-use Rattle.mirror.specs.declared.engine.Outcome.{Outcome}
+use Rattle.mirror.specs.declared.engine.Timed.{Timed}
 
 -- a state-only item for the source of number k, if it is due
 unfoldable pub tickSource : Engine → ℕ → Time → Engine
@@ -33,6 +34,6 @@ ticked e t =
     let x = statesOf (e .count) 0 e t in
     record { count = x .count; sources = x .sources; framer = passed (x .framer) t }
 
--- tick: 19, 7
-unfoldable pub tickOf : Engine → Time → Outcome
-tickOf e t = answered e (causeOf e (pick (not (timeOk t)) 7 0)) (ticked e t)
+-- tick: 19, 7; how far the clock is behind is measured from the frame as the tick found it, before its state items
+unfoldable pub tickOf : Engine → Time → Timed
+tickOf e t = timed (answered e (causeOf e (pick (not (timeOk t)) 7 0)) (ticked e t)) (backFor (e .framer .meter) t)

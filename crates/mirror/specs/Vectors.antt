@@ -1,4 +1,4 @@
--- The rows P1 to P9 (docs/RULES.md, "Worked examples"): each is a script of calls from the engine before setup, and all
+-- The rows P1 to P10 (docs/RULES.md, "Worked examples"): each is a script of calls from the engine before setup, and all
 -- that they say, one answer for each call. One statement about the definitions holds of the whole table.
 use Prim.Native.Nat.{ℕ}
 use mathlib.Core.Path.{_≡_}
@@ -161,7 +161,7 @@ p4 = record {
       ∷ [];
 }
 
--- P5: one nanosecond before the header time: new frame, offset 0
+-- P5: one nanosecond before the header time: new frame, offset 0, and the report tells it
 abbrev p5-first : List ℕ
 p5-first =
     0x01 ∷ 0x00 ∷ 0x00 ∷ 0x00 ∷ 0x00 ∷ 0x00 ∷ 0x00 ∷ 0x02 ∷ 0x00 ∷ 0x00 ∷ 0x00 ∷ 0x00 ∷ 0x00 ∷ 0x0a
@@ -187,7 +187,7 @@ p5 = record {
   said =
       ok ∷ ok ∷ number 0
       ∷ ok
-      ∷ ok
+      ∷ number 1
       ∷ ok
       ∷ taken p5-first 0
       ∷ taken p5-second 0
@@ -331,8 +331,71 @@ p9 = record {
       ∷ [];
 }
 
+-- P10: the clock is set back by 4 ms: a tick tells it and closes nothing (a take says 13); a report that is refused does not tell
+-- it; one that is accepted does, and starts a new frame, from which the next one is measured. Set back by 1 ns more: a tick that
+-- adds nothing tells it, and so does the next one, which finds the same frame, shows the state, and so starts a new frame; a third
+-- at the same time tells nothing, and neither does a tick before all of them once that frame has closed
+abbrev p10-first : List ℕ
+p10-first =
+    0x01 ∷ 0x00 ∷ 0x00 ∷ 0x00 ∷ 0x00 ∷ 0x00 ∷ 0x00 ∷ 0x10 ∷ 0x00 ∷ 0x3d ∷ 0x09 ∷ 0x00 ∷ 0x00 ∷ 0x0a
+    ∷ 0x00 ∷ 0x00 ∷ 0x61 ∷ 0x05 ∷ 0x00 ∷ 0x00 ∷ 0x01 ∷ 0x23 ∷ 0x01 ∷ 0x01
+    ∷ []
+
+abbrev p10-second : List ℕ
+p10-second =
+    0x01 ∷ 0x01 ∷ 0x00 ∷ 0x00 ∷ 0x00 ∷ 0x00 ∷ 0x00 ∷ 0x10 ∷ 0x00 ∷ 0x00 ∷ 0x00 ∷ 0x00 ∷ 0x00 ∷ 0x14
+    ∷ 0x00 ∷ 0x00 ∷ 0x61 ∷ 0x05 ∷ 0x00 ∷ 0x00 ∷ 0x01 ∷ 0x23 ∷ 0x01 ∷ 0x02
+    ∷ 0x00 ∷ 0x02 ∷ 0x61 ∷ 0x05 ∷ 0x00 ∷ 0x00 ∷ 0x01 ∷ 0x23 ∷ 0x01 ∷ 0x03
+    ∷ []
+
+abbrev p10-third : List ℕ
+p10-third =
+    0x01 ∷ 0x02 ∷ 0x00 ∷ 0x00 ∷ 0x00 ∷ 0x00 ∷ 0x00 ∷ 0x0f ∷ 0x3b ∷ 0x9a ∷ 0xc9 ∷ 0xff ∷ 0x00 ∷ 0x05
+    ∷ 0x00 ∷ 0x00 ∷ 0x81 ∷ 0x05 ∷ 0x40
+    ∷ []
+
+abbrev pub p10 : Row
+p10 = record {
+  calls =
+      setup 64 3 1 (1 ∷ 5 ∷ []) ∷ start 0 ∷ can-range 0 0 0xffffffff
+      ∷ can 0 (at 16 4000000) 0x123 (0x01 ∷ [])
+      ∷ tick (at 16 0)
+      ∷ take (room 24)
+      ∷ can 1 (at 16 0) 0x123 (0x02 ∷ [])
+      ∷ can 0 (at 16 0) 0x123 (0x02 ∷ [])
+      ∷ can 0 (at 16 20833) 0x123 (0x03 ∷ [])
+      ∷ can-state 0 true false false 0
+      ∷ tick (at 15 999999999)
+      ∷ tick (at 15 999999999)
+      ∷ tick (at 15 999999999)
+      ∷ tick (at 16 999999)
+      ∷ tick (at 15 0)
+      ∷ take (room 24)
+      ∷ take (room 34)
+      ∷ take (room 19)
+      ∷ [];
+  said =
+      ok ∷ ok ∷ number 0
+      ∷ ok
+      ∷ number 4000000
+      ∷ record { answer = 13; number = 0; output = room 24 }
+      ∷ refused 2
+      ∷ number 4000000
+      ∷ ok
+      ∷ ok
+      ∷ number 1
+      ∷ number 1
+      ∷ ok
+      ∷ ok
+      ∷ ok
+      ∷ taken p10-first 0
+      ∷ taken p10-second 0
+      ∷ taken p10-third 0
+      ∷ [];
+}
+
 abbrev pub table : List Row
-table = p1 ∷ p2 ∷ p3 ∷ p4 ∷ p5 ∷ p6 ∷ p7 ∷ p8 ∷ p9 ∷ []
+table = p1 ∷ p2 ∷ p3 ∷ p4 ∷ p5 ∷ p6 ∷ p7 ∷ p8 ∷ p9 ∷ p10 ∷ []
 
 -- what the calls of every row say is what stands beside them
 abbrev pub Holds : List Row → Type 0

@@ -2,6 +2,7 @@
 use bus::source::Source;
 use codec::ident::Kind;
 use codec::time::Millis;
+use codec::time::Nanos;
 use framer::framer::Framer;
 use framer::meter::Meter;
 ghost use mathlib.Core.Path.{_≡_};
@@ -22,6 +23,14 @@ pub struct Engine {
 pub struct Outcome {
     pub engine: Engine,
     pub answer: u8,
+}
+
+// What a report or a tick comes to. Beside 0 it tells how far the clock stood behind the frame being filled; 0 where it did not,
+// and beside a refusal.
+pub struct Timed {
+    pub engine: Engine,
+    pub answer: u8,
+    pub back: Nanos,
 }
 
 // The discard count, 0 beside a refusal.

@@ -1,6 +1,7 @@
 // A tick: 7; then a state-only item for each source that is due, and the deadline.
 use crate::engine::Engine;
-use crate::engine::Outcome;
+use crate::engine::Timed;
+use codec::time::Nanos;
 use codec::time::Time;
 ghost use mathlib.Core.Path.{_≡_};
 ghost use Prim.Native.Nat.{_<_, _≤_};
@@ -36,28 +37,31 @@ impl Engine {
         e
     }
 
-    pub fn tick(self, t: Time) -> Outcome
+    pub fn tick(self, t: Time) -> Timed
         ensures { λ o. ⌜ o ≡ tickOf self t ⌝ }
     {
         let m = self.framer.meter;
         if !crate::engine::sound(self.count, m) {
-            return Outcome {
+            return Timed {
                 engine: self,
                 answer: 19,
+                back: Nanos(0),
             };
         }
         if !codec::time::in_range(t) {
-            return Outcome {
+            return Timed {
                 engine: self,
                 answer: 7,
+                back: Nanos(0),
             };
         }
         let mut e = self.states(t);
         let f = e.framer;
         e.framer = f.pass(t);
-        Outcome {
+        Timed {
             engine: e,
             answer: 0,
+            back: framer::meter::back_for(m, t),
         }
     }
 }

@@ -37,21 +37,21 @@ fn bytes_word(call: Call) -> usize {
 fn with_bytes(engine: Engine, call: Call, bytes: &[u8], out: &mut [u8], at: usize) -> Made {
     match call {
         Call::Can { source, time, key } => {
-            crate::engine::done(engine.can(source, time, key, bytes), out, at)
+            crate::engine::timed(engine.can(source, time, key, bytes), out, at)
         }
         Call::Lin {
             source,
             time,
             pid,
             errors,
-        } => crate::engine::done(engine.lin(source, time, pid, errors, bytes), out, at),
+        } => crate::engine::timed(engine.lin(source, time, pid, errors, bytes), out, at),
         Call::FlexRay {
             source,
             time,
             channels,
             slot,
             cycle,
-        } => crate::engine::done(
+        } => crate::engine::timed(
             engine.flexray(source, time, channels, slot, cycle, bytes),
             out,
             at,

@@ -2,6 +2,7 @@
 use codec::number::Put;
 use mirror::engine::Engine;
 use mirror::engine::Outcome;
+use mirror::engine::Timed;
 use script::call::Call;
 use script::pairs::Pairs;
 ghost use mathlib.Core.Path.{_≡_};
@@ -32,6 +33,16 @@ pub(crate) fn done(outcome: Outcome, out: &mut [u8], at: usize) -> Made {
     Made {
         engine,
         put: script::answer::done(out, at, outcome.answer),
+    }
+}
+
+// A report or a tick.
+pub(crate) fn timed(outcome: Timed, out: &mut [u8], at: usize) -> Made {
+    let engine = outcome.engine;
+    let back = outcome.back;
+    Made {
+        engine,
+        put: script::answer::timed(out, at, outcome.answer, back),
     }
 }
 
@@ -100,7 +111,7 @@ pub(crate) fn make(engine: Engine, call: Call, line: &[u8], out: &mut [u8], at: 
         Call::Offline => done(engine.offline(), out, at),
         Call::Discards => discards(engine, out, at),
         Call::Take(size) => take(engine, size as usize, out, at),
-        Call::Tick(time) => done(engine.tick(time), out, at),
+        Call::Tick(time) => timed(engine.tick(time), out, at),
         Call::Setup {
             size,
             room,

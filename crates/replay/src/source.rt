@@ -80,7 +80,7 @@ pub(crate) fn make(engine: Engine, call: Call, out: &mut [u8], at: usize) -> Mad
             channels,
             slot,
             cycle,
-        } => crate::engine::done(
+        } => crate::engine::timed(
             engine.conflict(source, time, channels, slot, cycle),
             out,
             at,

@@ -6,6 +6,7 @@ use Rattle.script.proofs.answer.stepped.Reads as stepped
 use Rattle.script.proofs.answer.bad.Reads as bad
 use Rattle.script.proofs.answer.done.Reads as done
 use Rattle.script.proofs.answer.numbered.Reads as numbered
+use Rattle.script.proofs.answer.timed.Reads as timed
 use Rattle.script.proofs.answer.with_bytes.Reads as with-bytes
 use Rattle.script.proofs.answer.taken.Reads as taken
 use Rattle.script.proofs.call.parse.Reads as parse
@@ -25,6 +26,9 @@ done-unique κs a r r′ x x′ p q = (p .answer ∙ sym (q .answer), p .list �
 
 pub numbered-unique : (κs : _) (a : _) (r r′ : _) (x x′ : _) → numbered.Post κs a r x → numbered.Post κs a r′ x′ → (r ≡ r′) × (now (x .0) ≡ now (x′ .0))
 numbered-unique κs a r r′ x x′ p q = (p .answer ∙ sym (q .answer), p .list ∙ sym (q .list))
+
+pub timed-unique : (κs : _) (a : _) (r r′ : _) (x x′ : _) → timed.Post κs a r x → timed.Post κs a r′ x′ → (r ≡ r′) × (now (x .0) ≡ now (x′ .0))
+timed-unique κs a r r′ x x′ p q = (p .answer ∙ sym (q .answer), p .list ∙ sym (q .list))
 
 pub with-bytes-unique : (κs : _) (a : _) (r r′ : _) (x x′ : _) → with-bytes.Post κs a r x → with-bytes.Post κs a r′ x′ → (r ≡ r′) × (now (x .0) ≡ now (x′ .0))
 with-bytes-unique κs a r r′ x x′ p q = (p .answer ∙ sym (q .answer), p .list ∙ sym (q .list))

@@ -87,6 +87,14 @@ badText line = (63 ∷ []) ++ fieldText line
 unfoldable pub numberedText : ℕ → ℕ → List ℕ
 numberedText n v = decimalOf n ++ fieldText v
 
+-- ANSWER back N
+unfoldable pub backText : ℕ → ℕ → List ℕ
+backText n back = decimalOf n ++ (32 ∷ 98 ∷ 97 ∷ 99 ∷ 107 ∷ []) ++ fieldText back
+
+-- the same for a report or a tick whose clock was behind, else ANSWER alone
+unfoldable pub timedText : ℕ → ℕ → List ℕ
+timedText n back = pick (eqb back 0) (decimalOf n) (backText n back)
+
 -- ANSWER BYTES
 unfoldable pub bytesText : ℕ → List ℕ → List ℕ
 bytesText n bs = decimalOf n ++ (32 ∷ []) ++ hexOf bs

@@ -4,6 +4,7 @@ use codec::ident::Ident;
 use codec::item::Item;
 use codec::item::State;
 use codec::number::Put;
+use codec::time::Nanos;
 use codec::time::Time;
 use reader::Judged;
 use reader::Stepped;
@@ -14,7 +15,7 @@ ghost use Prim.Native.Nat.{_+_, _/_, _≤_};
 ghost use lib.ListN.{length};
 ghost use Rattle.codec.specs.Number.{Wrote};
 ghost use Rattle.text.specs.Put.{decimalOf, hexOf};
-ghost use Rattle.script.specs.Answer.{Short, fieldText, timeText, stateText, flexrayText, identText, loadText, placedText, itemText, judgedText, steppedText, badText, numberedText, bytesText, takenText, hexSize};
+ghost use Rattle.script.specs.Answer.{Short, fieldText, timeText, stateText, flexrayText, identText, loadText, placedText, itemText, judgedText, steppedText, badText, numberedText, backText, timedText, bytesText, takenText, hexSize};
 
 fn lay(out: &mut [u8], at: usize, s: &[u8]) -> usize
     requires { ⌜ at + length (now s) ≤ length (now out) ⌝ }
@@ -209,6 +210,27 @@ pub fn numbered(out: &mut [u8], at: usize, answer: u8, v: u64) -> Put
 {
     let mut text = [0u8; 256];
     let n = lay_numbered(&mut text, answer, v);
+    codec::number::put_bytes(out, at, &text[..n])
+}
+
+fn lay_back(out: &mut [u8], answer: u8, back: u64) -> usize
+    requires { ⌜ 256 ≤ length (now out) ⌝ }
+    ensures { λ r. ⌜ Short 46 (now (out .entry)) 0 (backText answer back) (now (out .exit)) r ⌝ }
+{
+    let a = number(out, 0, answer as u64);
+    let b = lay(out, a, b" back");
+    field(out, b, back)
+}
+
+// The answer of a report or a tick: how far the clock was behind, where it was.
+pub fn timed(out: &mut [u8], at: usize, answer: u8, back: Nanos) -> Put
+    ensures { λ r. ⌜ Wrote true (now (out .entry)) at (timedText answer (back .0)) (now (out .exit)) r ⌝ }
+{
+    if back.0 == 0 {
+        return done(out, at, answer);
+    }
+    let mut text = [0u8; 256];
+    let n = lay_back(&mut text, answer, back.0);
     codec::number::put_bytes(out, at, &text[..n])
 }
 

@@ -3,6 +3,7 @@
 
 mod bad;
 mod calls;
+mod clock;
 mod damage;
 mod draft;
 mod edges;
@@ -38,6 +39,7 @@ pub fn make(seed: u64, lines: usize) -> Vec<u8> {
     sheet.note(&format!("Made from seed {seed}."));
     edges::every_edge(&mut sheet, &mut random);
     pid_reports::every_report(&mut sheet, &mut random);
+    clock::every_step_back(&mut sheet);
     valid::every_form(&mut sheet, &mut random);
     sweep::every_value(&mut sheet, &mut random);
     pid_frames::every_frame(&mut sheet, &mut random);

@@ -14,7 +14,7 @@ pub struct Scene<'a> {
     pub now: Time,
 }
 
-const LAST: Time = Time {
+pub const LAST: Time = Time {
     seconds: LAST_SECOND,
     nanos: 999_999_999,
 };
@@ -43,6 +43,26 @@ const FROM_HEADER: [i128; 10] = [
     655_359_999,
     655_360_000,
     1_000_000_000,
+];
+
+/// How far the clock is set back behind a header: the cut of what is told has its edges among them.
+const BACK: [i128; 16] = [
+    1,
+    1,
+    9_999,
+    10_000,
+    4_000_000,
+    4_000_000,
+    655_360_000,
+    999_999_999,
+    1_000_000_000,
+    4_294_967_294,
+    4_294_967_294,
+    4_294_967_295,
+    4_294_967_296,
+    8_589_934_592,
+    110_000_000_001,
+    86_400_000_000_000,
 ];
 
 const STEPS: [i128; 12] = [
@@ -84,9 +104,9 @@ impl<'a> Scene<'a> {
         let choice = self.random.below(24);
         self.now = match since {
             Some(header) if choice < 2 => shifted(header, self.random.pick(&FROM_HEADER)),
-            Some(header) if choice == 2 => self.before(header),
-            _ if choice == 3 => self.second_edge(),
-            _ if choice == 4 && self.random.one_in(4) => self.any_time(),
+            Some(header) if choice < 5 => self.before(header),
+            _ if choice == 5 => self.second_edge(),
+            _ if choice == 6 && self.random.one_in(4) => self.any_time(),
             _ => shifted(self.now, self.random.pick(&STEPS)),
         };
         self.now
@@ -97,7 +117,8 @@ impl<'a> Scene<'a> {
         let deadline = i128::from(self.limits().deadline) * 1_000_000;
         match self.engine().framer().filling_since() {
             Some(header) if self.random.one_in(2) => {
-                let off = self.random.pick(&[-1, 0, 0, 1, 10_000, -deadline - 1]);
+                let edges = [-1, 0, 0, 1, 10_000, -deadline, -deadline - 1];
+                let off = self.random.pick(&edges);
                 self.now = shifted(header, deadline + off);
                 self.now
             }
@@ -106,10 +127,8 @@ impl<'a> Scene<'a> {
     }
 
     fn before(&mut self, header: Time) -> Time {
-        let back = self
-            .random
-            .pick(&[-1, -1, -10_000, -1_000_000_000, -86_400_000_000_000]);
-        shifted(header, back)
+        let back = self.random.pick(&BACK);
+        shifted(header, -back)
     }
 
     fn second_edge(&mut self) -> Time {
@@ -129,7 +148,7 @@ impl<'a> Scene<'a> {
 }
 
 /// A time so many nanoseconds away, or the nearest that there is.
-fn shifted(time: Time, nanos: i128) -> Time {
+pub fn shifted(time: Time, nanos: i128) -> Time {
     let count = time.count() as i128 + nanos;
     let count = count.clamp(0, LAST.count() as i128) as u128;
     let second = u128::from(NANOS_PER_SECOND);

@@ -25,7 +25,7 @@ use Rattle.bus.specs.declared.update.Update.{Update}
 use Rattle.bus.specs.declared.report.Report.{Report}
 use Rattle.bus.specs.declared.filter.Addition.{Addition}
 use Rattle.bus.proofs.BusLaws.{cause-passed, update-passed, add-passed}
-use Rattle.mirror.specs.Engine.{causeOf, sourceCause, indexOf, sourceAt, withSource}
+use Rattle.mirror.specs.Engine.{causeOf, timed, sourceCause, indexOf, sourceAt, withSource}
 use Rattle.mirror.specs.Source.{startOf, stopOf, updateOf, addOf, removeOf}
 use Rattle.mirror.specs.Report.{reported, reportOf}
 use Rattle.mirror.specs.Tick.{ticked, tickOf}
@@ -132,7 +132,7 @@ module _ (e : Engine) (s : Steady e) where
       → reportOf e r payload .answer ≡ 0
       → Does e (changed (bookOf e) (r .source) (reportedAccount b))
       (Rules.event (reportEvent b (accountAt (bookOf e) (r .source)) (r .time) id (r .carries) payload) ∷ []) (reportOf e r payload .engine)
-  unfolding reportOf reported reportEvent
+  unfolding reportOf timed reported reportEvent
   report-does b id r payload bytes g z =
       let h = accepted e _ _ z in
       let x : Source = sourceAt e (r .source) in
@@ -147,7 +147,7 @@ module _ (e : Engine) (s : Steady e) where
   -- a tick gives the state items called for, and then looks at the deadline
   tick-does : (t : Time) → tickOf e t .answer ≡ 0
       → Does e (map tickedAccount (bookOf e)) (map Rules.event (stateEvents t (bookOf e)) ++ (Rules.deadline t ∷ [])) (tickOf e t .engine)
-  unfolding tickOf ticked
+  unfolding tickOf timed ticked
   tick-does t z =
       let h = accepted e _ _ z in
       let least : 32 ≤ e .framer .meter .size = sounds (e .framer .meter) (metered e (s .sound)) .size-least in

@@ -55,7 +55,7 @@ out-by c e l Call.discards s t z = refl
 unfoldable opsBy : List Account → Deed → List Op
 opsBy book d = pick (done d) (opsOf book (meaning (d .call))) []
 
-abbrev deedOf : Engine → Call → Deed
+abbrev pub deedOf : Engine → Call → Deed
 deedOf e x = record { call = x; said = stepOf e x .said }
 
 record Stepped (c : Limits) (e : Engine) (l : Ledger) (x : Call) : Type 0 where
@@ -111,3 +111,10 @@ ran c e l (x ∷ xs) s p t =
       out = rw (o, got-append c l a b, map-append laid (gotOn c l a) (gotOn c (runL c l a) b), n .out, r .out);
       answers = (λ z. let y = not-broken e x (s .sound) in omega (arith, z), r .answers);
     }
+
+-- so the framer stays tied to the ledger of the deeds
+pub ran-tied : (c : Limits) (e : Engine) (l : Ledger) (xs : List Call) → Steady e → All Plain xs → Tied c (e .framer) l
+    → Tied c (runOf e xs .framer) (runL c l (opsOn (bookOf e) (deedsOf e xs)))
+ran-tied c e l xs s p t =
+    let r = ran c e l xs s p t in
+    rw (r .framer) (run-tied c (e .framer) l (opsOn (bookOf e) (deedsOf e xs)) t (r .fit))

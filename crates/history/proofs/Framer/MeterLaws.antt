@@ -1,5 +1,5 @@
 -- The framer's numbers are those of the ledger, the rules' tests give the same answers, and each step changes both alike.
-use Prim.Native.Nat.{ℕ, suc, _+_, _-_, _/_, _%_, _≤_, _<_}
+use Prim.Native.Nat.{ℕ, suc, _+_, _-_, _/_, _%_, _≤_, _<_, min}
 use mathlib.Core.Path.{_≡_, refl, sym, _∙_, ap}
 use mathlib.Core.Bool.{Bool, true, false, not, _&&_, _||_}
 use mathlib.Core.List.{List, [], _∷_, _++_}
@@ -12,13 +12,16 @@ use Rattle.codec.specs.Time.{ns, elapsed, ticksOf, overdueOf}
 use Rattle.codec.specs.Item.{itemLength}
 use Rattle.codec.specs.declared.time.Time.{Time}
 use Rattle.codec.specs.declared.time.Ticks.{Ticks}
+use Rattle.codec.specs.declared.time.Nanos.{Nanos}
 use Rattle.codec.specs.declared.time.Elapsed.the-variants as Elapsed
 use Rattle.codec.proofs.BoolLaws.{or-false, or-true}
-use Rattle.framer.specs.Meter.{isWithin, ticksIn, stateShown, itemOf, offsetFor, closesFor, counted, closedMeter, placedMeter, takenMeter}
+use Rattle.framer.specs.Meter.{isWithin, ticksIn, backIn, stateShown, itemOf, offsetFor, backFor, closesFor, counted, closedMeter, placedMeter, takenMeter}
 use Rattle.framer.specs.Framer.{itemSize, filledMeter}
 use Rattle.framer.specs.declared.meter.Meter.{Meter}
+use Rattle.framer.proofs.FramerLaws.{back-by}
 use Rattle.history.specs.Account.{Event}
 use Rattle.history.specs.Ledger.{Limits, Line, Frame, Ledger, stateIn, itemIn, sizeIn, total, isEmpty, discardCount, waitingIn, offsetIn, lineFor, closesBefore, hasRoom, overdue, close, enter, taken}
+use Rattle.history.specs.Clock.{behind}
 use Rattle.history.proofs.Ground.Machine.{offerIn}
 use Rattle.history.proofs.Ground.BitLaws.{raise-lost}
 use Rattle.history.proofs.Ground.TestLaws.{not-leb}
@@ -163,6 +166,16 @@ enter-meter c l ev h e =
     let n = size-same l ev (offsetFor (meterOf c l) (ev .time)) h in
     let f = filled-open (l .filling .lines) e in
     rw z (meter-path refl refl refl (sym (filled-more (l .filling .lines) (lineFor l ev) ∙ omega arith)) refl refl refl refl refl refl)
+
+-- how far a clock is behind
+pub back-same : (c : Limits) (l : Ledger) (t : Time) → backFor (meterOf c l) t .0 ≡ behind l t
+unfolding backFor meterOf behind
+back-same c l t = rw (filled-zero (l .filling .lines)) (go (isEmpty (l .filling .lines)))
+  where
+    go : (b : Bool) → pick {A = Nanos} b (record { 0 = 0 }) (backIn (elapsed (ns (l .filling .time)) (ns t))) .0
+        ≡ pick b 0 (min (ns (l .filling .time) - ns t) 4294967295)
+    go true = refl
+    go false = back-by (ns (l .filling .time)) (ns t)
 
 -- rule 7
 pub take-meter : (c : Limits) (l : Ledger) (fs : List Frame) → waitingIn l ≡ fs → takenMeter (meterOf c l) ≡ meterOf c (taken l)

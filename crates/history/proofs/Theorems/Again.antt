@@ -29,8 +29,8 @@ use Rattle.history.proofs.Ground.TestLaws.{wrong}
 use Rattle.history.proofs.Framer.MeterLaws.{meterOf}
 use Rattle.history.proofs.Sources.BookLaws.{bookOf, Steady, accepted}
 use Rattle.history.proofs.Engine.EngineLaws.{step-book}
-use Rattle.history.proofs.Framer.SimLaws.{Tied, run-tied}
-use Rattle.history.proofs.Engine.RunLaws.{ran}
+use Rattle.history.proofs.Framer.SimLaws.{Tied}
+use Rattle.history.proofs.Engine.RunLaws.{ran, ran-tied}
 use Rattle.history.proofs.Theorems.Theorem.{Begun, setup-begun, history-from}
 use Rattle.history.proofs.Theorems.ResetLaws.{renewed, book-stays, renewed-fresh, renewed-twice, after-begun}
 
@@ -124,7 +124,7 @@ step-alive c book e x a p = go (eqb (stepOf e x .said .answer) 0) refl p
         rw (q, plain-limits c (meaning x) p) (record {
           steady = r .steady;
           ledger = runL c (a .ledger) ops;
-          tied = rw (r .framer) (run-tied c (e .framer) (a .ledger) ops (a .tied) (r .fit));
+          tied = ran-tied c e (a .ledger) (x ∷ []) (a .steady) (p, tt) (a .tied);
           sources = ap (map renewed) (step-book e x (a .steady) p (eqb-true (stepOf e x .said .answer) 0 q)) ∙ book-stays (bookOf e) (meaning x) ∙ a .sources;
         })
     go true q (inr r) =

@@ -2,7 +2,7 @@
 use Prim.Native.Nat.{ℕ, _%_, _≤_}
 use mathlib.Core.Path.{_≡_, refl, sym, _∙_, ap, subst}
 use mathlib.Core.Bool.{Bool, true, false}
-use mathlib.Core.List.{List, [], _∷_, map}
+use mathlib.Core.List.{List, [], _∷_, _++_, map}
 use native.Mathlib.Omega.{arith}
 use lib.ListN.{length, take}
 use Rattle.codec.specs.Choice.{pick}
@@ -12,7 +12,8 @@ use Rattle.mirror.specs.Call.{Call, runOf}
 use Rattle.mirror.specs.declared.engine.Engine.{Engine}
 use Rattle.history.specs.Account.{Account, accountsFor}
 use Rattle.history.specs.Ledger.{Limits, Ledger, Op, emptyLedger, isEmpty, keptIn, discardCount, takenIn, waitingIn, fillingIn, runL}
-use Rattle.history.specs.Deed.{deedsOf, opsOn, ledgerOf}
+use Rattle.history.specs.Deed.{Deed, deedsOf, opsOn, ledgerOf}
+use Rattle.history.specs.Clock.{tellsBy, saysBy}
 use Rattle.history.specs.History.{Plain, All, framesTaken, framesWaiting, framesFilling, setUp, Leaves}
 use Rattle.history.proofs.Ground.Machine.{laid}
 use Rattle.history.proofs.Ground.ListLaws.{all-map, all-take, all-drop}
@@ -25,10 +26,11 @@ use Rattle.history.proofs.Reader.ReadLaws.{all-read}
 use Rattle.history.proofs.Framer.SlotLaws.{ring}
 use Rattle.history.proofs.Framer.MeterLaws.{meterOf, filledIn, filled-zero}
 use Rattle.history.proofs.Framer.FillLaws.{image-front}
-use Rattle.history.proofs.Framer.SimLaws.{Tied, size-limit, run-tied, empty-tied}
+use Rattle.history.proofs.Framer.SimLaws.{Tied, size-limit, empty-tied}
 use Rattle.history.proofs.Sources.BookLaws.{bookOf, Steady}
 use Rattle.history.proofs.Sources.SetupLaws.{setup-limits, setup-framer, setup-book, setup-steady}
-use Rattle.history.proofs.Engine.RunLaws.{Ran, ran}
+use Rattle.history.proofs.Engine.RunLaws.{Ran, ran, ran-tied}
+use Rattle.history.proofs.Engine.ClockLaws.{moment, tells-by}
 
 -- the frames in the engine are those of the ledger
 module _ (c : Limits) (e : Engine) (l : Ledger) (t : Tied c (e .framer) l) where
@@ -70,7 +72,7 @@ module _ (c : Limits) (book : List Account) (e : Engine) (calls : List Call) (b 
   end-steady = run-is .steady
 
   pub end-tied : Tied c (runOf e calls .framer) end
-  end-tied = rw (run-is .framer) (run-tied c (e .framer) emptyLedger ops (b .tied) (run-is .fit))
+  end-tied = ran-tied c e emptyLedger calls (b .steady) p (b .tied)
 
   taken-are : framesTaken (deedsOf e calls) ≡ map laid (takenIn end)
   unfolding emptyLedger takenIn
@@ -81,6 +83,13 @@ module _ (c : Limits) (book : List Account) (e : Engine) (calls : List Call) (b 
 
   good : All (Good c) (keptIn (end .closed))
   good = good-kept c ops small (run-is .fit)
+
+  tells-at : (before after : List Deed) (d : Deed) → deedsOf e calls ≡ before ++ (d ∷ after) → saysBy d ≡ tellsBy (ledgerOf c (bookOf e) before) d
+  unfolding ledgerOf
+  tells-at before after d q =
+      let m = moment e calls before after d q p in
+      let t = ran-tied c e emptyLedger (m .calls) (b .steady) (m .plain) (b .tied) in
+      ap saysBy (m .deed) ∙ tells-by c (runOf e (m .calls)) _ t (m .call) ∙ sym (λ i. tellsBy (ledgerOf c (bookOf e) (m .deeds i)) (m .deed i))
 
   from-book : Leaves c (bookOf e) e calls
   unfolding ledgerOf takenIn waitingIn
@@ -94,6 +103,7 @@ module _ (c : Limits) (book : List Account) (e : Engine) (calls : List Call) (b 
     filled = all-map (λ k. Good c (k .frame)) (λ k. k .frame .lines ≡ [] → ⊥) (λ k g. g .filled) (end .closed) (good-frames c ops small (run-is .fit) .0);
     marks = marks-are c ops (run-is .fit);
     answers = run-is .answers;
+    tells = tells-at;
   }
 
   pub history-from : Leaves c book e calls

@@ -16,7 +16,7 @@ apart-spec =
     (λ c. search needs)
     (λ c κs. search needs)
     (λ c. search needs)
-    (λ c. back _ _ (omega arith))
+    (λ c. back _ _ _ (omega arith) (omega arith))
     (λ c. search needs)
     (λ c. search needs)
     (λ c. search needs)

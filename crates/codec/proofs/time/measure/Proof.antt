@@ -15,4 +15,4 @@ measure-spec =
     (λ c. search needs)
     (λ c. c .ticks-of-nanos .ensures ∙ by-span _ _ _ (sym (c .before .before .before .before .apart .ensures) ∙ c .before .before .n .given .1))
     (λ c. by-span _ _ _ (sym (c .before .before .apart .ensures) ∙ c .enum-told .given .1))
-    (λ c. by-span _ _ _ (sym (c .before .before .apart .ensures) ∙ c .enum-told2 .given .1)))
+    (λ c. by-span _ _ _ (sym (c .before .before .before .apart .ensures) ∙ c .before .n2 .given .1)))
