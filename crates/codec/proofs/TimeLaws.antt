@@ -114,7 +114,7 @@ within f t k h = go (ltb t f) refl (leb ((t - f) / 10000) 65535) refl
         omega arith
     go false e false g = never (cc)
 
--- backwards says how far, from 1 on; below the cut the later time is the number's distance from the earlier
+-- backwards says how far, from 1 on; below the cut that number leads from the reading back to the header time
 pub backwards-by : (f t n : ℕ) → elapsed f t ≡ Elapsed.Backwards (record { 0 = n }) → (n ≡ behindBy f t) × ((t < f) × ((1 ≤ n) × (n < 4294967295 → t + n ≡ f)))
 unfolding elapsed ticksOf
 backwards-by f t n h = go (ltb t f) refl (leb ((t - f) / 10000) 65535) refl
