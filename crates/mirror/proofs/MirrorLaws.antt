@@ -47,18 +47,18 @@ unfolding causeOf answered
 done e cause after x s g n = rw (s, g, n)
 
 -- the same beside what a report or a tick tells of the clock
-quiet : (e : Engine) (o : Outcome) (c : ℕ) (back : Nanos) → record { engine = e; answer = c } ≡ o → (c ≡ 0 → ⊥)
+untold : (e : Engine) (o : Outcome) (c : ℕ) (back : Nanos) → record { engine = e; answer = c } ≡ o → (c ≡ 0 → ⊥)
     → record { engine = e; answer = c; back = record { 0 = 0 } } ≡ timed o back
 unfolding timed
-quiet e o c back q n = rw (← q) (rw (ne-eqb c 0 n))
+untold e o c back q n = rw (← q) (rw (ne-eqb c 0 n))
 
 pub timed-unsound : (e : Engine) (cause : ℕ) (after : Engine) (back : Nanos) → soundOf e ≡ false
     → record { engine = e; answer = 19; back = record { 0 = 0 } } ≡ timed (answered e (causeOf e cause) after) back
-timed-unsound e cause after back s = quiet e _ 19 back (unsound e cause after s) (λ z. omega arith)
+timed-unsound e cause after back s = untold e _ 19 back (unsound e cause after s) (λ z. omega arith)
 
 pub timed-refused : (e : Engine) (cause c : ℕ) (after : Engine) (back : Nanos) → soundOf e ≡ true → c ≡ cause → (c ≡ 0 → ⊥)
     → record { engine = e; answer = c; back = record { 0 = 0 } } ≡ timed (answered e (causeOf e cause) after) back
-timed-refused e cause c after back s g n = quiet e _ c back (refused e cause c after s g n) n
+timed-refused e cause c after back s g n = untold e _ c back (refused e cause c after s g n) n
 
 pub timed-done : (e : Engine) (cause : ℕ) (after x : Engine) (back b : Nanos) → soundOf e ≡ true → cause ≡ 0 → x ≡ after → b ≡ back
     → record { engine = x; answer = 0; back = b } ≡ timed (answered e (causeOf e cause) after) back
