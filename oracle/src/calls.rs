@@ -150,7 +150,9 @@ fn take(engine: &mut Engine, name: Word, words: &[Word]) -> Option<String> {
             let taken = numbered(engine.take(&mut output));
             Some(format!("{taken} {}", hex(&output)))
         }
+        (b"failed", []) => Some(plain(engine.failed())),
         (b"discards", []) => Some(format!("0 {}", engine.discards())),
+        (b"failures", []) => Some(format!("0 {}", engine.failures())),
         _ => None,
     }
 }

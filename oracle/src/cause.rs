@@ -14,3 +14,4 @@ pub const NO_SUCH_FILTER: u8 = 11;
 pub const OUTPUT_TOO_SHORT: u8 = 12;
 pub const NOTHING_WAITS: u8 = 13;
 pub const SETUP: u8 = 14;
+pub const NO_FRAME_OUT: u8 = 17;

@@ -1,6 +1,7 @@
 //! How often a script gets each answer, so that a stored script can be held to a coverage.
 
 use crate::count_clock::Clock;
+use crate::count_failed::Sends;
 use crate::count_pids::Pids;
 use crate::frame::{Header, Item, Kind};
 use crate::play::Player;
@@ -9,28 +10,31 @@ use crate::{reader, text};
 use std::collections::BTreeMap;
 
 /// `lines N`, `skipped N`, `bad N`, then `CALL ANSWER N` for each call and answer that occurred,
-/// then `taken WHAT N` for what the taken frames held, then the lines about PIDs and about a clock
-/// that steps back.
+/// then `taken WHAT N` for what the taken frames held, then the lines about PIDs, about a clock that
+/// steps back and about sends that failed.
 pub fn report(script: &[u8]) -> Vec<u8> {
     let mut player = Player::default();
     let (mut lines, mut skipped, mut bad) = (0usize, 0usize, 0usize);
     let mut counts: BTreeMap<(String, u32), usize> = BTreeMap::new();
     let mut taken = Taken::default();
     let (mut pids, mut clock) = (Pids::default(), Clock::default());
+    let mut sends = Sends::default();
     for (i, line) in text::lines(script).enumerate() {
         lines += 1;
-        let before = player.engine().framer().clone();
+        let before = player.engine().clone();
         let Some(answer) = player.line(i + 1, line) else {
             skipped += 1;
             continue;
         };
+        let after = player.engine();
+        sends.look(line, &answer, &before, after);
         let first = answer.split(' ').next().unwrap_or_default();
         let call = call_name(line);
         match first.parse() {
             Ok(number) => {
                 taken.look(&call, &answer);
-                pids.look(line, number, player.engine());
-                clock.look(line, &answer, &before, player.engine().framer());
+                pids.look(line, number, after);
+                clock.look(line, &answer, before.framer(), after.framer());
                 *counts.entry((call, number)).or_default() += 1;
             }
             Err(_) => bad += 1,
@@ -45,6 +49,7 @@ pub fn report(script: &[u8]) -> Vec<u8> {
     }
     out.push_str(&pids.report());
     out.push_str(&clock.report());
+    out.push_str(&sends.report());
     out.into_bytes()
 }
 

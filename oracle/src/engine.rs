@@ -133,8 +133,25 @@ impl Engine {
         self.framer.take(output)
     }
 
+    /// Cause 17 alone.
+    pub fn failed(&mut self) -> Result<(), u8> {
+        self.framer.fail()
+    }
+
     pub fn discards(&self) -> u32 {
         self.framer.discards()
+    }
+
+    pub fn failures(&self) -> u32 {
+        self.framer.failures()
+    }
+
+    /// The same with no loss pending: it shows what a loss makes of a call.
+    pub fn without_loss(&self) -> Engine {
+        Engine {
+            sources: self.sources.clone(),
+            framer: self.framer.without_loss(),
+        }
     }
 }
 

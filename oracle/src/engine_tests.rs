@@ -6,6 +6,8 @@ use crate::state;
 
 #[path = "clock_tests.rs"]
 mod clock;
+#[path = "failed_tests.rs"]
+mod failed;
 
 const CAN: (u32, u32) = (1, 5);
 const LIN: (u32, u32) = (2, 6);
@@ -237,7 +239,8 @@ fn before_setup_there_are_no_sources() {
     assert_eq!(engine.tick(after(0)), Ok(0));
     engine.offline();
     assert_eq!(engine.take(&mut []), Err(13));
-    assert_eq!(engine.discards(), 0);
+    assert_eq!(engine.failed(), Err(17));
+    assert_eq!((engine.discards(), engine.failures()), (0, 0));
     assert_eq!(engine, Engine::default());
 }
 

@@ -35,6 +35,9 @@ pub struct Framer {
     next_sequence: u8,
     lost: bool,
     discards: u32,
+    /// The frame last taken has not been called failed.
+    out: bool,
+    failures: u32,
 }
 
 impl Framer {
@@ -51,6 +54,27 @@ impl Framer {
 
     pub fn discards(&self) -> u32 {
         self.discards
+    }
+
+    pub fn failures(&self) -> u32 {
+        self.failures
+    }
+
+    /// A loss is pending.
+    pub fn lost(&self) -> bool {
+        self.lost
+    }
+
+    pub fn waiting(&self) -> usize {
+        self.waiting.len()
+    }
+
+    /// The same with no loss pending.
+    pub fn without_loss(&self) -> Framer {
+        Framer {
+            lost: false,
+            ..self.clone()
+        }
     }
 
     /// The bytes so far; DataLength is not among them before the closing.
@@ -157,7 +181,19 @@ impl Framer {
         let front = output.get_mut(..length);
         front.ok_or(cause::OUTPUT_TOO_SHORT)?.copy_from_slice(frame);
         self.waiting.pop_front();
+        self.out = true;
         Ok(length)
+    }
+
+    /// Rule 8.
+    pub fn fail(&mut self) -> Result<(), u8> {
+        if !self.out {
+            return Err(cause::NO_FRAME_OUT);
+        }
+        self.out = false;
+        self.lost = true;
+        self.failures = self.failures.saturating_add(1);
+        Ok(())
     }
 }
 
@@ -166,28 +202,54 @@ mod tests {
     use super::*;
     use crate::frame::Kind;
 
-    #[test]
-    fn the_discard_count_stops() {
-        let mut framer = Framer::new(Limits {
-            size: 32,
-            room: 1,
-            deadline: 1,
-        });
-        framer.discards = u32::MAX - 1;
-        let item = Item {
+    const SMALLEST: Limits = Limits {
+        size: 32,
+        room: 1,
+        deadline: 1,
+    };
+
+    fn put_and_close(framer: &mut Framer) {
+        framer.put(&Item {
             time: Time::default(),
             kind: Kind::Lin,
             network: 0,
             state: Some(0),
             id: None,
             payload: None,
-        };
+        });
+        framer.close();
+    }
+
+    #[test]
+    fn the_discard_count_stops() {
+        let mut framer = Framer::new(SMALLEST);
+        framer.discards = u32::MAX - 1;
         let mut counts = Vec::new();
         for _ in 0..4 {
-            framer.put(&item);
-            framer.close();
+            put_and_close(&mut framer);
             counts.push(framer.discards());
         }
         assert_eq!(counts, [u32::MAX - 1, u32::MAX, u32::MAX, u32::MAX]);
+        assert_eq!(framer.failures(), 0);
+    }
+
+    #[test]
+    fn the_failure_count_stops() {
+        let mut framer = Framer::new(SMALLEST);
+        framer.failures = u32::MAX - 2;
+        let mut counts = Vec::new();
+        for _ in 0..4 {
+            put_and_close(&mut framer);
+            framer.take(&mut [0; 32]).unwrap();
+            // At the cut a failed send is still a loss, and still told once.
+            framer.lost = false;
+            assert_eq!(framer.fail(), Ok(()));
+            assert!(framer.lost());
+            assert_eq!(framer.fail(), Err(17));
+            counts.push(framer.failures());
+        }
+        assert_eq!(counts, [u32::MAX - 1, u32::MAX, u32::MAX, u32::MAX]);
+        assert_eq!(framer.discards(), 0);
+        assert_eq!(Framer::new(framer.limits()).failures(), 0);
     }
 }

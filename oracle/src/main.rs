@@ -4,6 +4,7 @@ mod calls;
 mod cause;
 mod count;
 mod count_clock;
+mod count_failed;
 mod count_pids;
 mod engine;
 mod filter;

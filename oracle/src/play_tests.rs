@@ -94,6 +94,28 @@ fn the_worked_example_of_the_engine() {
 }
 
 #[test]
+fn failed_answers_its_number_alone_and_failures_the_count() {
+    let calls = "failed\ntake 36\nfailures\nfailed\nfailures\nfailed\nfailures\ndiscards\n";
+    let answers = play(&(P1.to_string() + calls));
+    assert_eq!(answers[8], "17");
+    let expected = ["0 0", "0", "0 1", "17", "0 1", "0 0"];
+    assert_eq!(answers[10..], expected);
+    let afresh = P1.to_string() + "take 36\nfailed\nnew\nfailures\nfailed\n";
+    assert_eq!(play(&afresh)[9..], ["0", "0", "0 0", "17"]);
+}
+
+#[test]
+fn failed_and_failures_have_no_other_word() {
+    let bad = "failed 0\nfailed -\nfailures 0\nfailures -\nfail\nFailed\nfailure\n failed\n";
+    let taken = P1.to_string() + "take 36\n" + bad + "failures\nfailed # good\nfailures  \n";
+    let answers = play(&taken);
+    for (number, answer) in (10..).zip(&answers[9..17]) {
+        assert_eq!(*answer, format!("? {number}"));
+    }
+    assert_eq!(answers[17..], ["0 0", "0", "0 1"]);
+}
+
+#[test]
 fn a_refused_take_shows_the_untouched_output() {
     let answers = play(&(P1.to_string() + "take 3\ntake 2048\ntake 2049\n"));
     assert_eq!(answers[8], "12 0 eeeeee");

@@ -20,6 +20,10 @@ impl State {
         self.current.unwrap_or(0)
     }
 
+    pub fn is_known(&self) -> bool {
+        self.current.is_some()
+    }
+
     /// Known, and never shown or not the same as last shown.
     pub fn is_news(&self) -> bool {
         self.current.is_some() && self.current != self.shown

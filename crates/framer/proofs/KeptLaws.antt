@@ -17,8 +17,8 @@ use Rattle.codec.specs.declared.time.Millis.{Millis}
 use Rattle.framer.specs.declared.offer.Offer.{Offer}
 use Rattle.framer.specs.declared.meter.Meter.{Meter}
 use Rattle.framer.specs.declared.framer.Framer.{Framer}
-use Rattle.framer.specs.Meter.{limitsOk, soundMeter, Sound, emptyMeter, stateShown, itemOf, offsetFor, isWithin, closesFor, closedMeter, startOf, placedMeter, takenMeter}
-use Rattle.framer.specs.Framer.{closed, itemSize, filledMeter, placed, added, add, passed, notTaken, takeOf}
+use Rattle.framer.specs.Meter.{limitsOk, soundMeter, Sound, emptyMeter, stateShown, itemOf, offsetFor, isWithin, closesFor, closedMeter, startOf, placedMeter, takenMeter, failedMeter}
+use Rattle.framer.specs.Framer.{closed, itemSize, filledMeter, placed, added, add, passed, notTaken, takeOf, failed}
 use Rattle.framer.specs.Queue.{lengthAt}
 use Rattle.framer.proofs.FramerLaws.{sounds, sound-flag, start-least, closed-size, closes-never}
 use Rattle.codec.proofs.BoolLaws.{and-l, and-r}
@@ -233,3 +233,8 @@ kept-take w n e = rw e (go (eqb (w .meter .waiting) 0) (ltb n (lengthAt (w .queu
     go true b = e
     go false true = e
     go false false = sound-flag (kept-taken (w .meter) (sounds (w .meter) e))
+
+-- the rule looks at nothing that a failed send changes
+pub kept-failed : (w : Framer) → soundMeter (w .meter) ≡ true → soundMeter (failed w .meter) ≡ true
+unfolding failed failedMeter soundMeter
+kept-failed w e = e

@@ -8,6 +8,7 @@ use Rattle.framer.proofs.framer.empty.Reads as empty
 use Rattle.framer.proofs.framer.Framer.add.Reads as add
 use Rattle.framer.proofs.framer.Framer.pass.Reads as pass
 use Rattle.framer.proofs.framer.Framer.take.Reads as take
+use Rattle.framer.proofs.framer.Framer.fail.Reads as fail
 
 pub sound-unique : (κs : _) (a : _) (r r′ : _) (x x′ : _) → sound.Post κs a r x → sound.Post κs a r′ x′ → r ≡ r′
 sound-unique κs a r r′ x x′ p q = p ∙ sym q
@@ -29,3 +30,6 @@ pass-unique κs a r r′ x x′ p q = p ∙ sym q
 
 pub take-unique : (κs : _) (a : _) (r r′ : _) (x x′ : _) → take.Post κs a r x → take.Post κs a r′ x′ → (r ≡ r′) × (now (x .1 .0) ≡ now (x′ .1 .0))
 take-unique κs a r r′ x x′ p q = (p .0 ∙ sym (q .0), p .1 ∙ sym (q .1))
+
+pub fail-unique : (κs : _) (a : _) (r r′ : _) (x x′ : _) → fail.Post κs a r x → fail.Post κs a r′ x′ → r ≡ r′
+fail-unique κs a r r′ x x′ p q = p ∙ sym q

@@ -1,4 +1,4 @@
--- The frame being filled, and the queue behind it (rules 1 to 3, 6 and 7).
+-- The frame being filled, and the queue behind it (rules 1 to 3 and 6 to 8).
 use Prim.Native.Nat.{ℕ, _-_}
 use mathlib.Core.Bool.{Bool, true, not, _&&_}
 use mathlib.Core.List.{List}
@@ -12,7 +12,7 @@ use Rattle.codec.specs.Item.{encode, itemOk, itemLength}
 use Rattle.codec.specs.declared.time.Time.{Time}
 use Rattle.codec.specs.declared.time.Millis.{Millis}
 use Rattle.codec.specs.declared.item.Item.{Item}
-use Rattle.framer.specs.Meter.{soundMeter, emptyMeter, itemOf, offsetFor, closesFor, slotOf, closedMeter, startOf, placedMeter, takenMeter}
+use Rattle.framer.specs.Meter.{soundMeter, emptyMeter, itemOf, offsetFor, closesFor, slotOf, closedMeter, startOf, placedMeter, takenMeter, failedMeter}
 use Rattle.framer.specs.Queue.{emptyQueue, queued, lengthAt, frameAt}
 use Rattle.framer.specs.declared.offer.Offer.{Offer}
 use Rattle.framer.specs.declared.meter.Meter.{Meter}
@@ -99,3 +99,7 @@ takeOf w room =
 unfoldable pub outOf : Framer → List ℕ → List ℕ
 outOf w out =
     pick (eqb (takeOf w (length out) .answer) 0) (over out 0 (frameAt (w .queue) (w .meter .first))) out
+
+-- the frame that is out has failed; no byte is touched (rule 8)
+unfoldable pub failed : Framer → Framer
+failed w = record { meter = failedMeter (w .meter); bytes = w .bytes; queue = w .queue }

@@ -1,4 +1,4 @@
--- The framer's numbers, and what is decided from them alone (rules 1 to 4 and 6).
+-- The framer's numbers, and what is decided from them alone (rules 1 to 4 and 6 to 8).
 use Prim.Native.Nat.{ℕ, _+_, _-_, _%_, _≤_, min}
 use mathlib.Core.Path.{_≡_}
 use mathlib.Core.Bool.{Bool, true, false, not, _&&_, _||_}
@@ -45,7 +45,7 @@ pub record Sound (m : Meter) : Type 0 where
   pub first : m .first ≤ 7
   pub waiting : m .waiting ≤ m .room
 
--- after setup: nothing waits or is being filled, no loss is pending, the discard count and the next sequence number are 0
+-- after setup: nothing waits, is being filled or is out, no loss is pending, both counts and the next sequence number are 0
 unfoldable pub emptyMeter : ℕ → ℕ → Millis → Meter
 emptyMeter size room deadline = record {
   size = size;
@@ -56,6 +56,8 @@ emptyMeter size room deadline = record {
   sequence = 0;
   lost = false;
   discards = 0;
+  out = false;
+  failures = 0;
   first = 0;
   waiting = 0;
 }
@@ -104,9 +106,9 @@ closesFor m t o n =
 unfoldable pub slotOf : Meter → ℕ
 slotOf m = (m .first + m .waiting) % 8
 
--- the discard count rises by 1, stopping at 4,294,967,295 (rule 3)
+-- a count of losses rises by 1, stopping at 4,294,967,295 (rules 3 and 8)
 unfoldable pub counted : ℕ → ℕ
-counted discards = min (discards + 1) 4294967295
+counted losses = min (losses + 1) 4294967295
 
 -- closing with fewer than Q waiting queues the frame; with Q waiting it is discarded and lost becomes pending (rule 3)
 unfoldable pub closedMeter : Meter → Meter
@@ -120,6 +122,8 @@ closedMeter m = pick (ltb (m .waiting) (m .room))
       sequence = m .sequence;
       lost = m .lost;
       discards = m .discards;
+      out = m .out;
+      failures = m .failures;
       first = m .first;
       waiting = m .waiting + 1;
     })
@@ -132,6 +136,8 @@ closedMeter m = pick (ltb (m .waiting) (m .room))
       sequence = m .sequence;
       lost = true;
       discards = counted (m .discards);
+      out = m .out;
+      failures = m .failures;
       first = m .first;
       waiting = m .waiting;
     })
@@ -153,6 +159,8 @@ placedMeter m t n = pick (eqb (m .filled) 0)
       sequence = (m .sequence + 1) % 256;
       lost = false;
       discards = m .discards;
+      out = m .out;
+      failures = m .failures;
       first = m .first;
       waiting = m .waiting;
     })
@@ -165,11 +173,13 @@ placedMeter m t n = pick (eqb (m .filled) 0)
       sequence = m .sequence;
       lost = false;
       discards = m .discards;
+      out = m .out;
+      failures = m .failures;
       first = m .first;
       waiting = m .waiting;
     })
 
--- taking frees room for use (rule 3)
+-- taking frees room for use (rule 3); the frame is out and can be called failed (rule 7)
 unfoldable pub takenMeter : Meter → Meter
 takenMeter m = pick (eqb (m .waiting) 0) m
     (record {
@@ -181,6 +191,25 @@ takenMeter m = pick (eqb (m .waiting) 0) m
       sequence = m .sequence;
       lost = m .lost;
       discards = m .discards;
+      out = true;
+      failures = m .failures;
       first = (m .first + 1) % 8;
       waiting = m .waiting - 1;
     })
+
+-- the frame that was out has failed: lost becomes pending, the failure count rises, and none is out (rule 8)
+unfoldable pub failedMeter : Meter → Meter
+failedMeter m = record {
+  size = m .size;
+  room = m .room;
+  deadline = m .deadline;
+  filled = m .filled;
+  time = m .time;
+  sequence = m .sequence;
+  lost = true;
+  discards = m .discards;
+  out = false;
+  failures = counted (m .failures);
+  first = m .first;
+  waiting = m .waiting;
+}

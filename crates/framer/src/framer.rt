@@ -1,4 +1,4 @@
-// The frame being filled, and the queue behind it: rules 1 to 3, the deadline of rule 6, and rule 7. It knows no bus.
+// The frame being filled, and the queue behind it: rules 1 to 3, the deadline of rule 6, rules 7 and 8. It knows no bus.
 use crate::meter::Meter;
 use crate::offer::Offer;
 use crate::queue::Queue;
@@ -10,7 +10,7 @@ ghost use mathlib.Core.Path.{_≡_};
 ghost use Prim.Native.Nat.{_≤_};
 ghost use lib.ListN.{length};
 ghost use Rattle.framer.specs.Meter.{placedMeter, startOf};
-ghost use Rattle.framer.specs.Framer.{emptyFramer, closed, begun, laidOut, filledMeter, filledBytes, add, passed, takeOf, outOf};
+ghost use Rattle.framer.specs.Framer.{emptyFramer, closed, begun, laidOut, filledMeter, filledBytes, add, passed, takeOf, outOf, failed};
 
 pub struct Framer {
     pub meter: Meter,
@@ -182,5 +182,14 @@ impl Framer {
             answer: 0,
             length: n,
         }
+    }
+
+    // The frame that is out was not sent. Whether one is out is the engine's question.
+    pub fn fail(mut self) -> Framer
+        ensures { λ r. ⌜ r ≡ failed self ⌝ }
+    {
+        let m = self.meter;
+        self.meter = crate::meter::failed_meter(m);
+        self
     }
 }

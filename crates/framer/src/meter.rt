@@ -9,7 +9,7 @@ use codec::time::Ticks;
 use codec::time::Time;
 ghost use mathlib.Core.Path.{_≡_};
 ghost use Rattle.codec.specs.Number.{Below};
-ghost use Rattle.framer.specs.Meter.{soundMeter, limitsOk, emptyMeter, isWithin, ticksIn, backIn, stateShown, itemOf, offsetFor, backFor, closesFor, slotOf, counted, closedMeter, takenMeter};
+ghost use Rattle.framer.specs.Meter.{soundMeter, limitsOk, emptyMeter, isWithin, ticksIn, backIn, stateShown, itemOf, offsetFor, backFor, closesFor, slotOf, counted, closedMeter, takenMeter, failedMeter};
 
 pub struct Meter {
     // frame size F, queue room Q and deadline D
@@ -23,6 +23,9 @@ pub struct Meter {
     pub sequence: u8,
     pub lost: bool,
     pub discards: u32,
+    // the frame last taken can still be called failed; how many were
+    pub out: bool,
+    pub failures: u32,
     // the slot of the oldest waiting frame, and how many wait
     pub first: usize,
     pub waiting: usize,
@@ -63,6 +66,8 @@ pub(crate) fn empty_meter(size: usize, room: usize, deadline: Millis) -> Meter
         sequence: 0,
         lost: false,
         discards: 0,
+        out: false,
+        failures: 0,
         first: 0,
         waiting: 0,
     }
@@ -175,14 +180,14 @@ pub(crate) fn slot(m: Meter) -> usize
     (m.first % 8 + m.waiting % 8) % 8
 }
 
-// One more discard, stopping at the last number that 32 bits hold.
-fn counted(discards: u32) -> u32
-    ensures { λ r. ⌜ r ≡ counted discards ⌝ }
+// One more loss, stopping at the last number that 32 bits hold.
+fn counted(losses: u32) -> u32
+    ensures { λ r. ⌜ r ≡ counted losses ⌝ }
 {
-    if discards < 4294967295 {
-        discards + 1
+    if losses < 4294967295 {
+        losses + 1
     } else {
-        discards
+        losses
     }
 }
 
@@ -211,5 +216,17 @@ pub(crate) fn taken_meter(m: Meter) -> Meter
     let mut r = m;
     r.first = (m.first % 8 + 1) % 8;
     r.waiting = m.waiting - 1;
+    r.out = true;
+    r
+}
+
+// The frame that was out is lost too. Whether one was out the caller has asked: nothing here depends on it.
+pub(crate) fn failed_meter(m: Meter) -> Meter
+    ensures { λ r. ⌜ r ≡ failedMeter m ⌝ }
+{
+    let mut r = m;
+    r.lost = true;
+    r.out = false;
+    r.failures = counted(m.failures);
     r
 }

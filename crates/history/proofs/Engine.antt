@@ -2,3 +2,4 @@
 pub mod EngineLaws
 pub mod RunLaws
 pub mod ClockLaws
+pub mod FailLaws

@@ -10,7 +10,7 @@ use Rattle.codec.specs.declared.ident.Kind.{Kind}
 use Rattle.codec.specs.declared.ident.Kind.the-variants as Kind
 use Rattle.codec.specs.declared.ident.Ident.{Ident}
 use Rattle.codec.specs.declared.ident.Ident.the-variants as Ident
-use Rattle.history.specs.Meaning.{Bound, none, errors, conflict, Meaning, starts, stops, updates, reports, ticks, takes, switches, drops, nothing}
+use Rattle.history.specs.Meaning.{Bound, none, errors, conflict, Meaning, starts, stops, updates, reports, ticks, takes, fails, switches, drops, nothing}
 
 -- something to be mirrored: an accepted report, or a state item that a tick calls for. `state` is the source's state byte
 -- without bit 7; `due` says that it is shown even where no loss is pending
@@ -199,6 +199,7 @@ eventsOf book (starts source) = []
 eventsOf book (stops source) = []
 eventsOf book (updates source byte) = []
 eventsOf book takes = []
+eventsOf book fails = []
 eventsOf book (switches size room deadline) = []
 eventsOf book drops = []
 eventsOf book nothing = []
@@ -215,6 +216,7 @@ accountsOf book (updates source byte) = changed book source (updatedAccount byte
 accountsOf book (reports source b t ident carries payload) = changed book source (reportedAccount b)
 accountsOf book (ticks t) = map tickedAccount book
 accountsOf book takes = book
+accountsOf book fails = book
 accountsOf book (switches size room deadline) = book
 accountsOf book drops = book
 accountsOf book nothing = book

@@ -3,7 +3,7 @@ use mathlib.Core.Logic.{_⊎_}
 use mathlib.Core.List.{List, [], _∷_}
 use Rattle.codec.specs.Choice.{pick}
 use Rattle.mirror.specs.Call.{Call}
-use Rattle.history.specs.Meaning.{Meaning, starts, stops, updates, reports, ticks, takes, switches, drops, nothing, meaning}
+use Rattle.history.specs.Meaning.{Meaning, starts, stops, updates, reports, ticks, takes, fails, switches, drops, nothing, meaning}
 use Rattle.history.specs.Ledger.{Limits}
 use Rattle.history.specs.Deed.{Deed, done}
 use Rattle.history.specs.History.{Plain}
@@ -17,6 +17,7 @@ Resets (updates source byte) = ⊥
 Resets (reports source b t ident carries payload) = ⊥
 Resets (ticks t) = ⊥
 Resets takes = ⊥
+Resets fails = ⊥
 Resets nothing = ⊥
 
 -- any call of the machine's types
@@ -33,6 +34,7 @@ limitsOf c (updates source byte) = c
 limitsOf c (reports source b t ident carries payload) = c
 limitsOf c (ticks t) = c
 limitsOf c takes = c
+limitsOf c fails = c
 limitsOf c nothing = c
 
 abbrev pub limitsOn : Limits → List Deed → Limits

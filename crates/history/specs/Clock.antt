@@ -4,7 +4,7 @@ use mathlib.Core.List.{List, [], _∷_, map}
 use Rattle.codec.specs.Choice.{pick}
 use Rattle.codec.specs.Time.{ns}
 use Rattle.codec.specs.declared.time.Time.{Time}
-use Rattle.history.specs.Meaning.{Meaning, starts, stops, updates, reports, ticks, takes, switches, drops, nothing, meaning}
+use Rattle.history.specs.Meaning.{Meaning, starts, stops, updates, reports, ticks, takes, fails, switches, drops, nothing, meaning}
 use Rattle.history.specs.Ledger.{Ledger, isEmpty}
 use Rattle.history.specs.Deed.{Deed, done}
 
@@ -21,6 +21,7 @@ clockIn (starts source) = []
 clockIn (stops source) = []
 clockIn (updates source byte) = []
 clockIn takes = []
+clockIn fails = []
 clockIn (switches size room deadline) = []
 clockIn drops = []
 clockIn nothing = []

@@ -5,7 +5,7 @@ use lib.Dec.{eqb}
 use Rattle.codec.specs.Choice.{pick}
 use Rattle.mirror.specs.Call.{Call, Said, stepOf}
 use Rattle.mirror.specs.declared.engine.Engine.{Engine}
-use Rattle.history.specs.Meaning.{Meaning, starts, stops, updates, reports, ticks, takes, switches, drops, nothing, meaning}
+use Rattle.history.specs.Meaning.{Meaning, starts, stops, updates, reports, ticks, takes, fails, switches, drops, nothing, meaning}
 use Rattle.history.specs.Account.{Account, Event, eventsOf, accountsOf}
 use Rattle.history.specs.Ledger.{Limits, Ledger, emptyLedger, Op, runL}
 use Rattle.history.specs.Ledger as Op
@@ -22,10 +22,11 @@ deedsOf e (x ∷ xs) = record { call = x; said = stepOf e x .said } ∷ deedsOf 
 unfoldable pub done : Deed → Bool
 done d = eqb (d .said .answer) 0
 
--- behind its events a tick looks at the deadline, and a take takes a frame (rules 6 and 7)
+-- behind its events a tick looks at the deadline, a take takes a frame, and a frame is called failed (rules 6 to 8)
 abbrev pub besides : Meaning → List Op
 besides (ticks t) = Op.deadline t ∷ []
 besides takes = Op.take ∷ []
+besides fails = Op.fail ∷ []
 besides (starts source) = []
 besides (stops source) = []
 besides (updates source byte) = []
@@ -46,7 +47,7 @@ abbrev pub eventsOn : List Account → List Deed → List Event
 eventsOn book [] = []
 eventsOn book (d ∷ ds) = pick (done d) (eventsOf book (meaning (d .call))) [] ++ eventsOn (accountsBy book d) ds
 
--- the same with deadlines and takes between them
+-- the same with deadlines, takes and failed sends between them
 abbrev pub opsOn : List Account → List Deed → List Op
 opsOn book [] = []
 opsOn book (d ∷ ds) = pick (done d) (opsOf book (meaning (d .call))) [] ++ opsOn (accountsBy book d) ds

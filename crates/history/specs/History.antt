@@ -2,33 +2,32 @@
 use Prim.Native.Nat.{ℕ, zero, suc, _+_, _*_, _%_, _^_, _≤_, _<_}
 use mathlib.Core.Path.{_≡_}
 use mathlib.Core.Logic.{_⊎_}
-use mathlib.Core.Bool.{Bool, true, false, not}
-use mathlib.Core.List.{List, [], _∷_, _++_, map}
+use mathlib.Core.Bool.{Bool, true, false}
+use mathlib.Core.List.{List, [], _∷_, _++_, map, reverse}
 use lib.ListN.{length}
 use lib.ListN as ListN
-use lib.Dec.{leb, eqb}
+use lib.Dec.{eqb}
 use Rattle.codec.specs.Choice.{pick}
 use Rattle.codec.specs.Number.{Bytes}
 use Rattle.codec.specs.Time.{ns}
 use Rattle.codec.specs.declared.ident.Ident.{Ident}
 use Rattle.codec.specs.declared.ident.Ident.the-variants as Ident
-use Rattle.codec.specs.declared.item.State.{State}
-use Rattle.codec.specs.declared.item.State.the-variants as State
 use Rattle.reader.specs.declared.frame.Judged.the-variants as Judged
 use Rattle.reader.specs.Frame.{judgeOf, itemsOf}
 use Rattle.reader.specs.Listing.{Yield, stepping}
 use Rattle.framer.specs.declared.queue.Queue.{Queue}
 use Rattle.framer.specs.Queue.{frameAt}
-use Rattle.mirror.specs.Engine.{discardsOf}
+use Rattle.mirror.specs.Engine.{discardsOf, failuresOf}
 use Rattle.mirror.specs.Call.{Call, Said, Step, stepOf, runOf}
 use Rattle.mirror.specs.Call as Call
 use Rattle.mirror.specs.declared.engine.Engine.{Engine}
-use Rattle.history.specs.Meaning.{Meaning, starts, stops, updates, reports, ticks, takes, switches, drops, nothing, meaning}
+use Rattle.history.specs.Meaning.{Meaning, starts, stops, updates, reports, ticks, takes, fails, switches, drops, nothing, meaning}
 use Rattle.history.specs.Account.{Account, Event}
-use Rattle.history.specs.Ledger.{Limits, Line, Frame, Closed, Ledger, emptyLedger, Op, stepL, runL, itemIn, entryIn, sizeIn, total, discardCount, takenIn, waitingIn, offsetIn, lineFor, linesIn, fillingIn}
+use Rattle.history.specs.Ledger.{Limits, Line, Frame, Closed, Ledger, emptyLedger, Op, stepL, runL, itemIn, entryIn, sizeIn, total, discardCount, takenIn, waitingIn, failuresIn, failureCount, unmarked, offsetIn, lineFor, isOut, linesIn, fillingIn}
 use Rattle.history.specs.Ledger as Op
 use Rattle.history.specs.Deed.{Deed, deedsOf, done, eventsOn, opsOn, ledgerOf}
 use Rattle.history.specs.Clock.{tellsBy, saysBy}
+use Rattle.history.specs.Loss.{Marks, Noted, failedOn}
 
 -- an id and a payload of the machine's types: a CAN key is below 2^32, a payload's numbers are bytes
 abbrev pub KeyFits : Ident → Type 0
@@ -46,6 +45,7 @@ Allowed (stops source) = Unit
 Allowed (updates source byte) = Unit
 Allowed (ticks t) = Unit
 Allowed takes = Unit
+Allowed fails = Unit
 Allowed nothing = Unit
 
 -- neither offline nor switch, and of the machine's types
@@ -71,6 +71,7 @@ frameOut (stops source) s = []
 frameOut (updates source byte) s = []
 frameOut (reports source b t ident carries payload) s = []
 frameOut (ticks t) s = []
+frameOut fails s = []
 frameOut (switches size room deadline) s = []
 frameOut drops s = []
 frameOut nothing s = []
@@ -78,6 +79,10 @@ frameOut nothing s = []
 abbrev pub framesTaken : List Deed → List (List ℕ)
 framesTaken [] = []
 framesTaken (d ∷ ds) = pick (done d) (frameOut (meaning (d .call)) (d .said)) [] ++ framesTaken ds
+
+-- what a receiver can have: those that the ledger has not marked as failed
+abbrev pub framesSent : Ledger → List Deed → List (List ℕ)
+framesSent l ds = unmarked (reverse (l .sends)) (framesTaken ds)
 
 -- n slots of the ring of eight from number k on
 abbrev pub slotsFrom : Queue → ℕ → ℕ → List (List ℕ)
@@ -106,7 +111,7 @@ pub record Reads (s : List ℕ) (f : Frame) : Type 0 where
   pub items : itemsOf s 14 ≡ map entryIn (f .lines)
   pub lines : Both Shows (stepping (length s) s 14) (f .lines)
 
--- rule 2 or rule 6 says that the frame being filled closes; a take never does (c)
+-- rule 2 or rule 6 says that the frame being filled closes; a take and a failed send never do (c)
 abbrev pub Says : Limits → Ledger → Op → Type 0
 Says c l (Op.event ev) =
     (l .filling .lines ≡ [] → ⊥)
@@ -114,28 +119,13 @@ Says c l (Op.event ev) =
 Says c l (Op.deadline t) =
     (l .filling .lines ≡ [] → ⊥) × ((1 ≤ c .deadline) × (ns (l .filling .time) + c .deadline * 1000000 ≤ ns t))
 Says c l Op.take = ⊥
+Says c l Op.fail = ⊥
 
 -- at one moment: no frame closes and no rule says so, or one does, as a rule says, and it is discarded exactly where Q wait (c)
 pub data Closes (c : Limits) (l : Ledger) (op : Op) (m : Ledger) : Type 0 where
   stays : m .closed ≡ l .closed → (Says c l op → ⊥) → Closes c l op m
   closes : (kept : Bool) → m .closed ≡ l .closed ++ (record { frame = l .filling; kept = kept } ∷ []) → Says c l op
       → (kept ≡ true → length (waitingIn l) < c .room) → (kept ≡ false → length (waitingIn l) ≡ c .room) → Closes c l op m
-
--- bit 7 of a shown state
-abbrev pub lostBit : State → Bool
-lostBit (State.Byte b) = leb 128 b
-lostBit State.Absent = false
-
--- the lost bit is b on the first line and is clear on the others
-abbrev pub Marked : Bool → List Line → Type 0
-Marked b [] = Unit
-Marked b (x ∷ xs) = (lostBit (itemIn x .state) ≡ b) × All (λ y. lostBit (itemIn y .state) ≡ false) xs
-
--- frame after frame: it is set on the first line after a discarded frame, and on no other; b says whether one was discarded just
--- before (e)
-abbrev pub Marks : Bool → List Closed → List Line → Type 0
-Marks b [] xs = Marked b xs
-Marks b (k ∷ ks) xs = Marked b (k .frame .lines) × Marks (not (k .kept)) ks xs
 
 -- demand 3: with the limits c and the accounts `book` of a setup, the deeds ds after it have left the engine u, and the ledger l
 -- was kept of them
@@ -152,12 +142,21 @@ pub record History (c : Limits) (book : List Account) (ds : List Deed) (l : Ledg
   pub discards : discardsOf u .count ≡ discardCount l
   pub filled : All (λ (k : Closed). k .frame .lines ≡ [] → ⊥) (l .closed)
   -- d: in `Reads`, for each line
-  -- e: the lost bit stands exactly on the first item made after a discard
-  pub marks : Marks false (l .closed) (l .filling .lines)
+  -- e: the lost bit stands exactly on the first item made after a discard or a failed send
+  pub marks : Marks false (l .notes) (l .lost)
+  pub noted : Noted l
+  pub pending : u .framer .meter .lost ≡ l .lost
   -- f: no call answers 19
   pub answers : All (λ (d : Deed). d .said .answer ≡ 19 → ⊥) ds
   -- g: at each moment a report or a tick tells how far its time lies before the frame being filled as it found it
   pub tells : (before after : List Deed) (d : Deed) → ds ≡ before ++ (d ∷ after) → saysBy d ≡ tellsBy (ledgerOf c book before) d
+  -- h: at each moment `failed` is answered 0 exactly where a frame is out, and else 17; the failure count is the number of those
+  -- answered 0, which is the number of frames marked as failed; there is a mark for each frame taken
+  pub fails : (before after : List Deed) (d : Deed) → ds ≡ before ++ (d ∷ after) → d .call ≡ Call.failed
+      → d .said .answer ≡ pick (isOut (ledgerOf c book before .sends)) 0 17
+  pub failures : failuresOf u .count ≡ failureCount l
+  pub called : failuresIn (l .sends) ≡ failedOn ds
+  pub marked : length (l .sends) ≡ length (framesTaken ds)
 
 -- setup with the limits c and a list of kinds and ids
 abbrev pub setUp : Engine → Limits → List ℕ → Step

@@ -1,7 +1,7 @@
--- The ledger of frames: it knows no bytes and never forgets (rules 1 to 4, 6 and 7).
-use Prim.Native.Nat.{ℕ, _+_, _-_, _*_, _/_, _%_, min}
+-- The ledger of frames: it knows no bytes and never forgets (rules 1 to 4 and 6 to 8).
+use Prim.Native.Nat.{ℕ, suc, _+_, _-_, _*_, _/_, _%_, min}
 use mathlib.Core.Bool.{Bool, true, false, not, _&&_, _||_}
-use mathlib.Core.List.{List, [], _∷_, _++_}
+use mathlib.Core.List.{List, [], _∷_, _++_, reverse}
 use lib.ListN.{length, drop}
 use lib.ListN as ListN
 use lib.Dec.{ltb, leb}
@@ -38,14 +38,22 @@ pub record Closed : Type 0 where
   pub frame : Frame
   pub kept : Bool
 
--- every frame closed so far, the one being filled, the next sequence number, whether a loss is pending, and how many of the kept
--- frames were taken
+-- what is noted in order: an item was made, a frame was queued, a frame was discarded, a frame that was taken has failed
+pub data Note : Type 0 where
+  made : Line → Note
+  queued : Note
+  discarded : Note
+  unsent : Note
+
+-- every frame closed so far, the one being filled, the next sequence number, whether a loss is pending; for each kept frame that
+-- was taken, the latest first, whether it was called failed; and the notes
 pub record Ledger : Type 0 where
   pub closed : List Closed
   pub filling : Frame
   pub next : ℕ
   pub lost : Bool
-  pub taken : ℕ
+  pub sends : List Bool
+  pub notes : List Note
 
 -- after setup
 unfoldable pub emptyLedger : Ledger
@@ -54,7 +62,8 @@ emptyLedger = record {
   filling = record { sequence = 0; time = record { sec = 0; nano = 0 }; lines = [] };
   next = 0;
   lost = false;
-  taken = 0;
+  sends = [];
+  notes = [];
 }
 
 -- the state is shown where lost is pending, which sets bit 7, or where it is due (rule 4)
@@ -101,10 +110,28 @@ discardCount l = min (length (discardedIn (l .closed))) 4294967295
 
 -- kept and taken, the oldest first; kept and not yet taken
 unfoldable pub takenIn : Ledger → List Frame
-takenIn l = ListN.take (l .taken) (keptIn (l .closed))
+takenIn l = ListN.take (length (l .sends)) (keptIn (l .closed))
 
 unfoldable pub waitingIn : Ledger → List Frame
-waitingIn l = drop (l .taken) (keptIn (l .closed))
+waitingIn l = drop (length (l .sends)) (keptIn (l .closed))
+
+-- the failure count, stopping at 4,294,967,295 (rule 8)
+abbrev pub failuresIn : List Bool → ℕ
+failuresIn [] = 0
+failuresIn (failed ∷ before) = pick failed (suc (failuresIn before)) (failuresIn before)
+
+unfoldable pub failureCount : Ledger → ℕ
+failureCount l = min (failuresIn (l .sends)) 4294967295
+
+-- those that are not marked, mark by mark
+abbrev pub unmarked : {A : Type 0} → List Bool → List A → List A
+unmarked [] xs = []
+unmarked (m ∷ ms) [] = []
+unmarked (m ∷ ms) (x ∷ xs) = pick m [] (x ∷ []) ++ unmarked ms xs
+
+-- taken and not failed: what a receiver can have
+unfoldable pub sentIn : Ledger → List Frame
+sentIn l = unmarked (reverse (l .sends)) (takenIn l)
 
 -- rule 1: t minus header time in nanoseconds, divided by 10,000, remainder dropped; 0 where t is the header time
 unfoldable pub offsetIn : Frame → Time → ℕ
@@ -137,7 +164,8 @@ close c l = record {
   filling = record { sequence = l .filling .sequence; time = l .filling .time; lines = [] };
   next = l .next;
   lost = l .lost || not (hasRoom c l);
-  taken = l .taken;
+  sends = l .sends;
+  notes = l .notes ++ (pick (hasRoom c l) queued discarded ∷ []);
 }
 
 -- rule 1: in an empty frame the header comes first, with time t and the next sequence number, which then rises by 1, 255 to 0
@@ -148,7 +176,8 @@ begin t l = pick (isEmpty (l .filling .lines))
       filling = record { sequence = l .next; time = t; lines = [] };
       next = (l .next + 1) % 256;
       lost = l .lost;
-      taken = l .taken;
+      sends = l .sends;
+      notes = l .notes;
     })
     l
 
@@ -163,7 +192,8 @@ enter ev l = record {
   };
   next = l .next;
   lost = false;
-  taken = l .taken;
+  sends = l .sends;
+  notes = l .notes ++ (made (lineFor l ev) ∷ []);
 }
 
 -- closing comes first, so the choice of the state, and the size, is made again after it (rules 2 and 4)
@@ -180,19 +210,40 @@ taken l = record {
   filling = l .filling;
   next = l .next;
   lost = l .lost;
-  taken = pick (isEmpty (waitingIn l)) (l .taken) (l .taken + 1);
+  sends = pick (isEmpty (waitingIn l)) (l .sends) (false ∷ l .sends);
+  notes = l .notes;
 }
 
--- what can befall a ledger: an event to be mirrored, a tick's look at the deadline, a take
+-- a frame is out: one was taken, and the latest was not called failed
+abbrev pub isOut : List Bool → Bool
+isOut [] = false
+isOut (failed ∷ before) = not failed
+
+-- rule 8: the frame that is out has failed, and lost becomes pending; where none is out, nothing
+unfoldable pub failed : Ledger → Ledger
+failed l = pick (isOut (l .sends))
+    (record {
+      closed = l .closed;
+      filling = l .filling;
+      next = l .next;
+      lost = true;
+      sends = true ∷ drop 1 (l .sends);
+      notes = l .notes ++ (unsent ∷ []);
+    })
+    l
+
+-- what can befall a ledger: an event to be mirrored, a tick's look at the deadline, a take, a send that failed
 pub data Op : Type 0 where
   event : Event → Op
   deadline : Time → Op
   take : Op
+  fail : Op
 
 abbrev pub stepL : Limits → Ledger → Op → Ledger
 stepL c l (event ev) = mirrored c ev l
 stepL c l (deadline t) = passed c t l
 stepL c l take = taken l
+stepL c l fail = failed l
 
 abbrev pub runL : Limits → Ledger → List Op → Ledger
 runL c l [] = l
@@ -209,3 +260,27 @@ linesIn l = linesClosed (l .closed) ++ l .filling .lines
 -- the frame being filled, if it has a line
 unfoldable pub fillingIn : Ledger → List Frame
 fillingIn l = pick (isEmpty (l .filling .lines)) [] (l .filling ∷ [])
+
+-- what the notes say: every line made, and how many frames were discarded and called failed
+abbrev pub madeIn : List Note → List Line
+madeIn [] = []
+madeIn (made x ∷ ns) = x ∷ madeIn ns
+madeIn (queued ∷ ns) = madeIn ns
+madeIn (discarded ∷ ns) = madeIn ns
+madeIn (unsent ∷ ns) = madeIn ns
+
+abbrev pub isDiscard : Note → ℕ
+isDiscard discarded = 1
+isDiscard (made x) = 0
+isDiscard queued = 0
+isDiscard unsent = 0
+
+abbrev pub isFailure : Note → ℕ
+isFailure unsent = 1
+isFailure (made x) = 0
+isFailure queued = 0
+isFailure discarded = 0
+
+abbrev pub tally : (Note → ℕ) → List Note → ℕ
+tally f [] = 0
+tally f (n ∷ ns) = f n + tally f ns

@@ -1,4 +1,4 @@
--- What each call of the engine says to the ledger, if it is answered 0 (docs/RULES.md, "Frame bytes", rules 4 to 7).
+-- What each call of the engine says to the ledger, if it is answered 0 (docs/RULES.md, "Frame bytes", rules 4 to 8).
 use Prim.Native.Nat.{ℕ, _+_, _*_, _/_, min}
 use mathlib.Core.Bool.{Bool, true, false}
 use mathlib.Core.List.{List, []}
@@ -16,7 +16,8 @@ pub data Bound : Type 0 where
   conflict : Bound
 
 -- a source is started or stopped; its state byte is updated; it reports, with its frame-bound bits, a time, an id, whether a
--- payload is carried, and the payload; the clock ticks; a frame is taken; F, Q and D are new; all is dropped; or nothing
+-- payload is carried, and the payload; the clock ticks; a frame is taken; the one last taken has failed; F, Q and D are new; all is
+-- dropped; or nothing
 pub data Meaning : Type 0 where
   starts : ℕ → Meaning
   stops : ℕ → Meaning
@@ -24,6 +25,7 @@ pub data Meaning : Type 0 where
   reports : ℕ → Bound → Time → Ident → Bool → List ℕ → Meaning
   ticks : Time → Meaning
   takes : Meaning
+  fails : Meaning
   switches : ℕ → ℕ → ℕ → Meaning
   drops : Meaning
   nothing : Meaning
@@ -47,6 +49,7 @@ meaning (Call.flexray source t channels slot cycle payload) = reports source non
 meaning (Call.conflict source t channels slot cycle) = reports source conflict t (Ident.FlexRay channels slot cycle) false []
 meaning (Call.tick t) = ticks t
 meaning (Call.take out) = takes
+meaning Call.failed = fails
 meaning (Call.switch size room deadline) = switches size room deadline
 meaning Call.offline = drops
 meaning (Call.setup size room deadline pairs) = nothing
@@ -57,3 +60,4 @@ meaning (Call.lin-range source lower upper) = nothing
 meaning (Call.slots source low high lowCycle highCycle repetition) = nothing
 meaning (Call.remove source number) = nothing
 meaning Call.discards = nothing
+meaning Call.failures = nothing

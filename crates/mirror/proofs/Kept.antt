@@ -14,10 +14,10 @@ use Rattle.codec.specs.declared.time.Millis.{Millis}
 use Rattle.framer.specs.declared.meter.Meter.{Meter}
 use Rattle.codec.proofs.BoolLaws.{and-l, and-r}
 use Rattle.framer.specs.Meter.{soundMeter, limitsOk}
-use Rattle.framer.specs.Framer.{emptyFramer, add, passed, takeOf}
+use Rattle.framer.specs.Framer.{emptyFramer, add, passed, takeOf, failed}
 use Rattle.framer.specs.declared.framer.Framer.{Framer}
 use Rattle.framer.proofs.FramerLaws.{sounds}
-use Rattle.framer.proofs.KeptLaws.{kept-empty, kept-add, kept-pass, kept-take}
+use Rattle.framer.proofs.KeptLaws.{kept-empty, kept-add, kept-pass, kept-take, kept-failed}
 use Rattle.bus.specs.Source.{tickDue, stateOffer, addCause}
 use Rattle.bus.specs.Report.{reportCause, offerOf, settled}
 use Rattle.bus.specs.declared.source.Source.{Source}
@@ -31,6 +31,7 @@ use Rattle.mirror.specs.Source.{startOf, stopOf, updateOf, addOf, remove
 use Rattle.mirror.specs.Report.{reported, reportOf}
 use Rattle.mirror.specs.Tick.{tickSource, statesOf, ticked, tickOf}
 use Rattle.mirror.specs.Take.{takenOf}
+use Rattle.mirror.specs.Failed.{failedOf}
 use Rattle.mirror.specs.Call.{Call, stepOf, runOf}
 use Rattle.mirror.specs.Call as Call
 use Rattle.mirror.specs.declared.engine.Engine.{Engine}
@@ -141,6 +142,11 @@ take-sound : (e : Engine) (n : ℕ) → soundOf e ≡ true → soundOf (takenOf 
 unfolding takenOf
 take-sound e n s = rw s (sound-by (e .count) (e .sources) (takeOf (e .framer) n .framer) (few e s) (kept-take (e .framer) n (metered e s)))
 
+-- a failed send
+failed-sound : (e : Engine) → soundOf e ≡ true → soundOf (failedOf e .engine) ≡ true
+unfolding failedOf
+failed-sound e s = answered-sound e _ _ s (λ z. sound-by (e .count) (e .sources) (failed (e .framer)) (few e s) (kept-failed (e .framer) (metered e s)))
+
 -- setup, switch and offline
 accepted : (b : Bool) → pick {A = ℕ} b 0 14 ≡ 0 → b ≡ true
 accepted true e = refl
@@ -200,7 +206,9 @@ kept e (Call.slots source low high lowCycle highCycle repetition) s = add-sound 
 kept e (Call.remove source number) s = remove-sound e source number s
 kept e (Call.tick t) s = tick-sound e t s
 kept e (Call.take out) s = take-sound e (length out) s
+kept e Call.failed s = failed-sound e s
 kept e Call.discards s = s
+kept e Call.failures s = s
 
 -- so every engine that calls make of the one before setup is sound
 pub always : (cs : List Call) (e : Engine) → soundOf e ≡ true → soundOf (runOf e cs) ≡ true

@@ -15,7 +15,7 @@ use Rattle.codec.specs.declared.time.Time.{Time}
 use Rattle.codec.specs.declared.time.Millis.{Millis}
 use Rattle.codec.specs.declared.time.Nanos.{Nanos}
 use Rattle.framer.specs.Meter.{limitsOk, soundMeter}
-use Rattle.framer.specs.Framer.{emptyFramer, add, passed}
+use Rattle.framer.specs.Framer.{emptyFramer, add, passed, failed}
 use Rattle.framer.specs.declared.framer.Framer.{Framer}
 use Rattle.framer.specs.declared.offer.Offer.{Offer}
 use Rattle.bus.specs.Source.{freeAt, addCause, addedFilter, tickDue, stateOffer, calmed, resetSource}
@@ -28,6 +28,7 @@ use Rattle.mirror.specs.Setup.{sourceNumbered, pairOk, namedAgain, pairs
 use Rattle.mirror.specs.Source.{storedOf, addOf}
 use Rattle.mirror.specs.Report.{reported}
 use Rattle.mirror.specs.Tick.{tickSource, statesOf, ticked}
+use Rattle.mirror.specs.Failed.{failedOf}
 use Rattle.mirror.specs.declared.engine.Engine.{Engine}
 use Rattle.mirror.specs.declared.engine.Outcome.{Outcome}
 
@@ -262,3 +263,13 @@ pub offline-done : (e x : Engine) → soundOf e ≡ true → (e .count ≡ 0 →
     → x ≡ resetOf e (e .framer .meter .size) (e .framer .meter .room) (e .framer .meter .deadline) → record { engine = x; answer = 0 } ≡ offlineOf e
 unfolding offlineOf
 offline-done e x s z ex = done e 0 _ _ s refl (ex ∙ rw (ne-eqb (e .count) 0 z))
+
+-- a failed send
+pub failed-none : (e : Engine) → soundOf e ≡ true → e .framer .meter .out ≡ false → record { engine = e; answer = 17 } ≡ failedOf e
+unfolding failedOf
+failed-none e s z = refused e _ 17 _ s (rw z) (λ y. omega arith)
+
+pub failed-done : (e : Engine) (w : Framer) → soundOf e ≡ true → e .framer .meter .out ≡ true → w ≡ failed (e .framer)
+    → record { engine = record { count = e .count; sources = e .sources; framer = w }; answer = 0 } ≡ failedOf e
+unfolding failedOf
+failed-done e w s z ew = done e _ _ _ s (rw z) (rw ew)

@@ -25,12 +25,13 @@ use Rattle.bus.specs.declared.source.Source.{Source}
 use Rattle.bus.specs.declared.report.Report.{Report}
 use Rattle.bus.specs.declared.update.Update.{Update}
 use Rattle.bus.specs.declared.filter.Addition.{Addition}
-use Rattle.mirror.specs.Engine.{soundOf, causeOf, answered, timed, sourceCause, sourceAt, withSource, discardsOf}
+use Rattle.mirror.specs.Engine.{soundOf, causeOf, answered, timed, sourceCause, sourceAt, withSource, askedOf, discardsOf, failuresOf}
 use Rattle.mirror.specs.Setup.{setupOf, switchOf, offlineOf, sourcesOk}
 use Rattle.mirror.specs.Source.{startOf, stopOf, updateOf, addOf, removeOf}
 use Rattle.mirror.specs.Report.{reportOf}
 use Rattle.mirror.specs.Tick.{tickOf}
 use Rattle.mirror.specs.Take.{takenOf, outputOf}
+use Rattle.mirror.specs.Failed.{failedOf}
 use Rattle.mirror.specs.Call.{Call, Step, stepOf}
 use Rattle.mirror.specs.Call as Call
 use Rattle.mirror.specs.declared.engine.Engine.{Engine}
@@ -59,7 +60,9 @@ lent (Call.lin-range source lower upper) = []
 lent (Call.slots source low high lowCycle highCycle repetition) = []
 lent (Call.remove source number) = []
 lent (Call.tick t) = []
+lent Call.failed = []
 lent Call.discards = []
+lent Call.failures = []
 
 -- nothing is changed, and beside the answer stands nothing
 pub record Untouched (e : Engine) (c : Call) (s : Step) : Type 0 where
@@ -111,17 +114,17 @@ taken e out n = go (soundOf e) refl
         let t = took (e .framer) out (λ z. n (rw q z)) in
         (rw q (ap (λ (w : Framer). record { count = e .count; sources = e .sources; framer = w }) (t .0)), rw q (t .1), rw q (t .2))
 
-counted : (e : Engine) → (discardsOf e .answer ≡ 0 → ⊥) → discardsOf e .count ≡ 0
-unfolding discardsOf
-counted e n = go (soundOf e) refl
+uncounted : (e : Engine) (k : ℕ) → (askedOf e k .answer ≡ 0 → ⊥) → askedOf e k .count ≡ 0
+unfolding askedOf
+uncounted e k n = go (soundOf e) refl
   where
-    go : (b : Bool) → soundOf e ≡ b → discardsOf e .count ≡ 0
+    go : (b : Bool) → soundOf e ≡ b → askedOf e k .count ≡ 0
     go false q = rw q
     go true q = let z : ⊥ = n (rw q) in absurd z
 
 -- a refused call leaves everything as it was
 pub refused-keeps : (e : Engine) (c : Call) → (stepOf e c .said .answer ≡ 0 → ⊥) → Untouched e c (stepOf e c)
-unfolding setupOf switchOf offlineOf startOf stopOf reportOf updateOf removeOf tickOf timed
+unfolding setupOf switchOf offlineOf startOf stopOf reportOf updateOf removeOf tickOf timed failedOf discardsOf failuresOf
 refused-keeps e (Call.setup size room deadline pairs) n = record { engine = plainly e _ _ n; number = refl; output = refl }
 refused-keeps e (Call.switch size room deadline) n = record { engine = plainly e _ _ n; number = refl; output = refl }
 refused-keeps e Call.offline n = record { engine = plainly e _ _ n; number = refl; output = refl }
@@ -142,7 +145,9 @@ refused-keeps e (Call.slots source low high lowCycle highCycle repetition) n = l
 refused-keeps e (Call.remove source number) n = record { engine = plainly e _ _ n; number = refl; output = refl }
 refused-keeps e (Call.tick t) n = record { engine = plainly e _ _ n; number = quiet e _ _ _ n; output = refl }
 refused-keeps e (Call.take out) n = let z = taken e out n in record { engine = z .0; number = z .1; output = z .2 }
-refused-keeps e Call.discards n = record { engine = refl; number = counted e n; output = refl }
+refused-keeps e Call.failed n = record { engine = plainly e _ _ n; number = refl; output = refl }
+refused-keeps e Call.discards n = record { engine = refl; number = uncounted e _ n; output = refl }
+refused-keeps e Call.failures n = record { engine = refl; number = uncounted e _ n; output = refl }
 
 -- where the rule is broken, 19
 plainly-19 : (e after : Engine) (cause : ℕ) → soundOf e ≡ false → answered e (causeOf e cause) after .answer ≡ 19
@@ -234,7 +239,7 @@ unfolding takenOf
 taken-below e n s = rw s (took-below (e .framer) n (metered e s))
 
 pub broken : (e : Engine) (c : Call) → soundOf e ≡ false → stepOf e c .said .answer ≡ 19
-unfolding setupOf switchOf offlineOf startOf stopOf reportOf updateOf removeOf tickOf timed discardsOf
+unfolding setupOf switchOf offlineOf startOf stopOf reportOf updateOf removeOf tickOf timed failedOf askedOf discardsOf failuresOf
 broken e (Call.setup size room deadline pairs) s = plainly-19 e _ _ s
 broken e (Call.switch size room deadline) s = plainly-19 e _ _ s
 broken e Call.offline s = plainly-19 e _ _ s
@@ -255,10 +260,12 @@ broken e (Call.slots source low high lowCycle highCycle repetition) s = added-19
 broken e (Call.remove source number) s = plainly-19 e _ _ s
 broken e (Call.tick t) s = plainly-19 e _ _ s
 broken e (Call.take out) s = taken-19 e (length out) s
+broken e Call.failed s = plainly-19 e _ _ s
 broken e Call.discards s = rw s
+broken e Call.failures s = rw s
 
 pub not-broken : (e : Engine) (c : Call) → soundOf e ≡ true → stepOf e c .said .answer < 19
-unfolding setupOf switchOf offlineOf startOf stopOf reportOf updateOf removeOf tickOf timed discardsOf
+unfolding setupOf switchOf offlineOf startOf stopOf reportOf updateOf removeOf tickOf timed failedOf askedOf discardsOf failuresOf
 not-broken e (Call.setup size room deadline pairs) s = plainly-below e _ _ s (below (eqb (e .count) 0 && limitsOk size room deadline && sourcesOk pairs) 0 14 (omega arith) (omega arith))
 not-broken e (Call.switch size room deadline) s = plainly-below e _ _ s (below (not (eqb (e .count) 0) && limitsOk size room deadline) 0 14 (omega arith) (omega arith))
 not-broken e Call.offline s = plainly-below e _ _ s (omega arith)
@@ -279,4 +286,6 @@ not-broken e (Call.slots source low high lowCycle highCycle repetition) s = adde
 not-broken e (Call.remove source number) s = plainly-below e _ _ s (source-below e source _ (remove-below (sourceAt e source) number))
 not-broken e (Call.tick t) s = plainly-below e _ _ s (below (not (timeOk t)) 7 0 (omega arith) (omega arith))
 not-broken e (Call.take out) s = taken-below e (length out) s
+not-broken e Call.failed s = plainly-below e _ _ s (below (e .framer .meter .out) 0 17 (omega arith) (omega arith))
 not-broken e Call.discards s = rw s (omega arith)
+not-broken e Call.failures s = rw s (omega arith)

@@ -22,6 +22,8 @@ use Rattle.mirror.proofs.engine.Engine.lin_range.Reads as lin-range
 use Rattle.mirror.proofs.engine.Engine.slots.Reads as slots
 use Rattle.mirror.proofs.engine.Engine.remove.Reads as remove
 use Rattle.mirror.proofs.engine.Engine.take.Reads as take
+use Rattle.mirror.proofs.engine.Engine.failed.Reads as failed
+use Rattle.mirror.proofs.engine.Engine.failures.Reads as failures
 use Rattle.mirror.proofs.engine.Engine.tick.Reads as tick
 
 pub fresh-unique : (κs : _) (a : _) (r r′ : _) (x x′ : _) → fresh.Post κs a r x → fresh.Post κs a r′ x′ → r ≡ r′
@@ -89,3 +91,9 @@ tick-unique κs a r r′ x x′ p q = p ∙ sym q
 
 pub take-unique : (κs : _) (a : _) (r r′ : _) (x x′ : _) → take.Post κs a r x → take.Post κs a r′ x′ → (r ≡ r′) × (now (x .1 .0) ≡ now (x′ .1 .0))
 take-unique κs a r r′ x x′ p q = (p .0 ∙ sym (q .0), p .1 ∙ sym (q .1))
+
+pub failed-unique : (κs : _) (a : _) (r r′ : _) (x x′ : _) → failed.Post κs a r x → failed.Post κs a r′ x′ → r ≡ r′
+failed-unique κs a r r′ x x′ p q = p ∙ sym q
+
+pub failures-unique : (κs : _) (a : _) (r r′ : _) (x x′ : _) → failures.Post κs a r x → failures.Post κs a r′ x′ → r ≡ r′
+failures-unique κs a r r′ x x′ p q = p ∙ sym q

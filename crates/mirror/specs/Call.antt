@@ -8,15 +8,17 @@ use Rattle.codec.specs.declared.time.Time.{Time}
 use Rattle.bus.specs.Report.{canReport, linReport, frameReport, conflictReport}
 use Rattle.bus.specs.Update.{canUpdate, linUpdate, flexrayUpdate}
 use Rattle.bus.specs.Filter.{canMask, canRange, linMask, linRange, slotsOf}
-use Rattle.mirror.specs.Engine.{discardsOf}
+use Rattle.mirror.specs.Engine.{discardsOf, failuresOf}
 use Rattle.mirror.specs.Setup.{setupOf, switchOf, offlineOf}
 use Rattle.mirror.specs.Source.{startOf, stopOf, updateOf, addOf, removeOf}
 use Rattle.mirror.specs.Report.{reportOf}
 use Rattle.mirror.specs.Tick.{tickOf}
 use Rattle.mirror.specs.Take.{takenOf, outputOf}
+use Rattle.mirror.specs.Failed.{failedOf}
 use Rattle.mirror.specs.declared.engine.Engine.{Engine}
 use Rattle.mirror.specs.declared.engine.Outcome.{Outcome}
 use Rattle.mirror.specs.declared.engine.Timed.{Timed}
+use Rattle.mirror.specs.declared.engine.Counted.{Counted}
 use Rattle.mirror.specs.declared.source.Added.{Added}
 
 -- a call with its arguments; a take has the output that is lent
@@ -41,10 +43,12 @@ pub data Call : Type 0 where
   remove : ℕ → ℕ → Call
   tick : Time → Call
   take : List ℕ → Call
+  failed : Call
   discards : Call
+  failures : Call
 
--- what a call says: the answer's number, the number beside it (a filter's, a frame's length, the discard count, the nanoseconds
--- that the clock was behind), and the output after it
+-- what a call says: the answer's number, the number beside it (a filter's, a frame's length, a count, the nanoseconds that the
+-- clock was behind), and the output after it
 pub record Said : Type 0 where
   pub answer : ℕ
   pub number : ℕ
@@ -62,6 +66,9 @@ numbered a = record { engine = a .engine; said = record { answer = a .answer; nu
 
 abbrev clocked : Timed → Step
 clocked o = record { engine = o .engine; said = record { answer = o .answer; number = o .back .0; output = [] } }
+
+abbrev asked : Engine → Counted → Step
+asked e n = record { engine = e; said = record { answer = n .answer; number = n .count; output = [] } }
 
 abbrev pub stepOf : Engine → Call → Step
 stepOf e (setup size room deadline pairs) = plain (setupOf e size room deadline pairs)
@@ -87,7 +94,9 @@ stepOf e (take out) = record {
   engine = takenOf e (length out) .engine;
   said = record { answer = takenOf e (length out) .answer; number = takenOf e (length out) .length; output = outputOf e out };
 }
-stepOf e discards = record { engine = e; said = record { answer = discardsOf e .answer; number = discardsOf e .count; output = [] } }
+stepOf e failed = plain (failedOf e)
+stepOf e discards = asked e (discardsOf e)
+stepOf e failures = asked e (failuresOf e)
 
 -- the engine after a list of calls, and what they say, one after the other
 abbrev pub runOf : Engine → List Call → Engine

@@ -69,6 +69,13 @@ sourceAt e source = getD (e .sources) (indexOf source) noSource
 unfoldable pub withSource : Engine → ℕ → Source → Framer → Engine
 withSource e source s w = record { count = e .count; sources = set (e .sources) (indexOf source) s; framer = w }
 
--- the discard count (rule 3); other numbers beside a refusal are 0
+-- a number that is asked for: only 19; other numbers beside a refusal are 0
+unfoldable pub askedOf : Engine → ℕ → Counted
+askedOf e n = pick (soundOf e) (record { answer = 0; count = n }) (record { answer = 19; count = 0 })
+
+-- the discard count (rule 3) and the failure count (rule 8)
 unfoldable pub discardsOf : Engine → Counted
-discardsOf e = pick (soundOf e) (record { answer = 0; count = e .framer .meter .discards }) (record { answer = 19; count = 0 })
+discardsOf e = askedOf e (e .framer .meter .discards)
+
+unfoldable pub failuresOf : Engine → Counted
+failuresOf e = askedOf e (e .framer .meter .failures)

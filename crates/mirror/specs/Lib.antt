@@ -4,5 +4,6 @@ pub mod Source
 pub mod Report
 pub mod Tick
 pub mod Take
+pub mod Failed
 pub mod Call
 pub mod Vectors

@@ -1,4 +1,4 @@
--- The rows P1 to P10 (docs/RULES.md, "Worked examples"): each is a script of calls from the engine before setup, and all
+-- The rows P1 to P12 (docs/RULES.md, "Worked examples"): each is a script of calls from the engine before setup, and all
 -- that they say, one answer for each call. One statement about the definitions holds of the whole table.
 use Prim.Native.Nat.{ℕ}
 use mathlib.Core.Path.{_≡_}
@@ -8,7 +8,7 @@ use lib.ListN.{length, replicate}
 use Rattle.codec.specs.declared.time.Time.{Time}
 use Rattle.mirror.specs.Engine.{freshEngine}
 use Rattle.mirror.specs.Call.{Call, Said, saidOf}
-use Rattle.mirror.specs.Call.{setup, start, can, lin, flexray, can-state, can-range, lin-range, slots, tick, take, discards}
+use Rattle.mirror.specs.Call.{setup, switch, offline, start, can, lin, flexray, can-state, can-range, lin-range, slots, tick, take, failed, discards, failures}
 
 pub record Row : Type 0 where
   pub calls : List Call
@@ -394,8 +394,158 @@ p10 = record {
       ∷ [];
 }
 
+-- P11: failed before any take, and while the first frame waits. That one is taken, and so is the second; while the third has one
+-- item, failed is said of the second, twice: the next item has bit 7 and the one after it has not. The fourth frame is discarded
+-- while the third waits; the third is taken and called failed: two losses, and bit 7 on the first item of the fifth frame alone.
+-- A take that is refused brings nothing out
+abbrev pub p11-first : List ℕ
+p11-first =
+    0x01 ∷ 0x00 ∷ 0x00 ∷ 0x00 ∷ 0x00 ∷ 0x00 ∷ 0x00 ∷ 0x01 ∷ 0x00 ∷ 0x00 ∷ 0x00 ∷ 0x00 ∷ 0x00 ∷ 0x0a
+    ∷ 0x00 ∷ 0x00 ∷ 0x61 ∷ 0x05 ∷ 0x00 ∷ 0x00 ∷ 0x01 ∷ 0x23 ∷ 0x01 ∷ 0x01
+    ∷ []
+
+abbrev p11-second : List ℕ
+p11-second =
+    0x01 ∷ 0x01 ∷ 0x00 ∷ 0x00 ∷ 0x00 ∷ 0x00 ∷ 0x00 ∷ 0x02 ∷ 0x00 ∷ 0x00 ∷ 0x00 ∷ 0x00 ∷ 0x00 ∷ 0x0a
+    ∷ 0x00 ∷ 0x00 ∷ 0x61 ∷ 0x05 ∷ 0x00 ∷ 0x00 ∷ 0x01 ∷ 0x23 ∷ 0x01 ∷ 0x02
+    ∷ []
+
+abbrev p11-third : List ℕ
+p11-third =
+    0x01 ∷ 0x02 ∷ 0x00 ∷ 0x00 ∷ 0x00 ∷ 0x00 ∷ 0x00 ∷ 0x03 ∷ 0x00 ∷ 0x00 ∷ 0x00 ∷ 0x00 ∷ 0x00 ∷ 0x1f
+    ∷ 0x00 ∷ 0x00 ∷ 0x61 ∷ 0x05 ∷ 0x00 ∷ 0x00 ∷ 0x01 ∷ 0x23 ∷ 0x01 ∷ 0x03
+    ∷ 0x00 ∷ 0x02 ∷ 0xe1 ∷ 0x05 ∷ 0x80 ∷ 0x00 ∷ 0x00 ∷ 0x01 ∷ 0x23 ∷ 0x01 ∷ 0x04
+    ∷ 0x00 ∷ 0x02 ∷ 0x61 ∷ 0x05 ∷ 0x00 ∷ 0x00 ∷ 0x01 ∷ 0x23 ∷ 0x01 ∷ 0x05
+    ∷ []
+
+abbrev pub p11-fifth : List ℕ
+p11-fifth =
+    0x01 ∷ 0x04 ∷ 0x00 ∷ 0x00 ∷ 0x00 ∷ 0x00 ∷ 0x00 ∷ 0x05 ∷ 0x00 ∷ 0x00 ∷ 0x00 ∷ 0x00 ∷ 0x00 ∷ 0x15
+    ∷ 0x00 ∷ 0x00 ∷ 0xe1 ∷ 0x05 ∷ 0x80 ∷ 0x00 ∷ 0x00 ∷ 0x01 ∷ 0x23 ∷ 0x01 ∷ 0x07
+    ∷ 0x00 ∷ 0x00 ∷ 0x61 ∷ 0x05 ∷ 0x00 ∷ 0x00 ∷ 0x01 ∷ 0x23 ∷ 0x01 ∷ 0x08
+    ∷ []
+
+abbrev pub p11 : Row
+p11 = record {
+  calls =
+      setup 64 1 1 (1 ∷ 5 ∷ []) ∷ start 0 ∷ can-range 0 0 0xffffffff
+      ∷ failed
+      ∷ can 0 (at 1 0) 0x123 (0x01 ∷ [])
+      ∷ tick (at 1 1000000)
+      ∷ failed
+      ∷ take (room 24)
+      ∷ can 0 (at 2 0) 0x123 (0x02 ∷ [])
+      ∷ tick (at 2 1000000)
+      ∷ take (room 24)
+      ∷ can 0 (at 3 0) 0x123 (0x03 ∷ [])
+      ∷ failed ∷ failed ∷ failures
+      ∷ can 0 (at 3 20833) 0x123 (0x04 ∷ [])
+      ∷ can 0 (at 3 20833) 0x123 (0x05 ∷ [])
+      ∷ tick (at 3 1000000)
+      ∷ can 0 (at 4 0) 0x123 (0x06 ∷ [])
+      ∷ tick (at 4 1000000)
+      ∷ take (room 45)
+      ∷ failed ∷ failures ∷ discards
+      ∷ can 0 (at 5 0) 0x123 (0x07 ∷ [])
+      ∷ can 0 (at 5 0) 0x123 (0x08 ∷ [])
+      ∷ tick (at 5 1000000)
+      ∷ take (room 34)
+      ∷ failed
+      ∷ take (room 35)
+      ∷ [];
+  said =
+      ok ∷ ok ∷ number 0
+      ∷ refused 17
+      ∷ ok
+      ∷ ok
+      ∷ refused 17
+      ∷ taken p11-first 0
+      ∷ ok
+      ∷ ok
+      ∷ taken p11-second 0
+      ∷ ok
+      ∷ ok ∷ refused 17 ∷ number 1
+      ∷ ok
+      ∷ ok
+      ∷ ok
+      ∷ ok
+      ∷ ok
+      ∷ taken p11-third 0
+      ∷ ok ∷ number 2 ∷ number 1
+      ∷ ok
+      ∷ ok
+      ∷ ok
+      ∷ record { answer = 12; number = 0; output = room 34 }
+      ∷ refused 17
+      ∷ taken p11-fifth 0
+      ∷ [];
+}
+
+-- P12: a frame is taken; a take that is refused leaves it out, so it can be called failed. After offline the count is 0, and the
+-- next item has no bit 7. Its frame is taken, and after offline it can no longer be called failed; neither can the next one after a
+-- switch
+abbrev p12-first : List ℕ
+p12-first =
+    0x01 ∷ 0x00 ∷ 0x00 ∷ 0x00 ∷ 0x00 ∷ 0x00 ∷ 0x00 ∷ 0x01 ∷ 0x00 ∷ 0x00 ∷ 0x00 ∷ 0x00 ∷ 0x00 ∷ 0x0a
+    ∷ 0x00 ∷ 0x00 ∷ 0x61 ∷ 0x05 ∷ 0x00 ∷ 0x00 ∷ 0x01 ∷ 0x23 ∷ 0x01 ∷ 0x01
+    ∷ []
+
+abbrev p12-second : List ℕ
+p12-second =
+    0x01 ∷ 0x00 ∷ 0x00 ∷ 0x00 ∷ 0x00 ∷ 0x00 ∷ 0x00 ∷ 0x02 ∷ 0x00 ∷ 0x00 ∷ 0x00 ∷ 0x00 ∷ 0x00 ∷ 0x0a
+    ∷ 0x00 ∷ 0x00 ∷ 0x61 ∷ 0x05 ∷ 0x00 ∷ 0x00 ∷ 0x01 ∷ 0x23 ∷ 0x01 ∷ 0x02
+    ∷ []
+
+abbrev p12-third : List ℕ
+p12-third =
+    0x01 ∷ 0x00 ∷ 0x00 ∷ 0x00 ∷ 0x00 ∷ 0x00 ∷ 0x00 ∷ 0x03 ∷ 0x00 ∷ 0x00 ∷ 0x00 ∷ 0x00 ∷ 0x00 ∷ 0x0a
+    ∷ 0x00 ∷ 0x00 ∷ 0x61 ∷ 0x05 ∷ 0x00 ∷ 0x00 ∷ 0x01 ∷ 0x23 ∷ 0x01 ∷ 0x03
+    ∷ []
+
+abbrev pub p12 : Row
+p12 = record {
+  calls =
+      setup 64 1 1 (1 ∷ 5 ∷ []) ∷ start 0 ∷ can-range 0 0 0xffffffff
+      ∷ can 0 (at 1 0) 0x123 (0x01 ∷ [])
+      ∷ tick (at 1 1000000)
+      ∷ take (room 24)
+      ∷ take (room 24)
+      ∷ failed ∷ failures
+      ∷ offline ∷ failures
+      ∷ start 0 ∷ can-range 0 0 0xffffffff
+      ∷ can 0 (at 2 0) 0x123 (0x02 ∷ [])
+      ∷ tick (at 2 1000000)
+      ∷ take (room 24)
+      ∷ offline ∷ failed
+      ∷ start 0 ∷ can-range 0 0 0xffffffff
+      ∷ can 0 (at 3 0) 0x123 (0x03 ∷ [])
+      ∷ tick (at 3 1000000)
+      ∷ take (room 24)
+      ∷ switch 64 1 1 ∷ failed ∷ failures
+      ∷ [];
+  said =
+      ok ∷ ok ∷ number 0
+      ∷ ok
+      ∷ ok
+      ∷ taken p12-first 0
+      ∷ record { answer = 13; number = 0; output = room 24 }
+      ∷ ok ∷ number 1
+      ∷ ok ∷ number 0
+      ∷ ok ∷ number 0
+      ∷ ok
+      ∷ ok
+      ∷ taken p12-second 0
+      ∷ ok ∷ refused 17
+      ∷ ok ∷ number 0
+      ∷ ok
+      ∷ ok
+      ∷ taken p12-third 0
+      ∷ ok ∷ refused 17 ∷ number 0
+      ∷ [];
+}
+
 abbrev pub table : List Row
-table = p1 ∷ p2 ∷ p3 ∷ p4 ∷ p5 ∷ p6 ∷ p7 ∷ p8 ∷ p9 ∷ p10 ∷ []
+table = p1 ∷ p2 ∷ p3 ∷ p4 ∷ p5 ∷ p6 ∷ p7 ∷ p8 ∷ p9 ∷ p10 ∷ p11 ∷ p12 ∷ []
 
 -- what the calls of every row say is what stands beside them
 abbrev pub Holds : List Row → Type 0

@@ -10,7 +10,7 @@ ghost use mathlib.Core.Bool.{_&&_};
 ghost use lib.Dec.{leb};
 ghost use Rattle.codec.specs.Number.{Below};
 ghost use Rattle.framer.specs.Meter.{soundMeter};
-ghost use Rattle.mirror.specs.Engine.{noSources, freshEngine, indexOf, discardsOf};
+ghost use Rattle.mirror.specs.Engine.{noSources, freshEngine, indexOf, askedOf, discardsOf, failuresOf};
 
 pub struct Engine {
     // how many sources there are, 0 before setup
@@ -33,7 +33,7 @@ pub struct Timed {
     pub back: Nanos,
 }
 
-// The discard count, 0 beside a refusal.
+// The discard count or the failure count, 0 beside a refusal.
 pub struct Counted {
     pub answer: u8,
     pub count: u32,
@@ -72,8 +72,8 @@ pub(crate) fn index(source: u64) -> usize
 }
 
 impl Engine {
-    pub fn discards(self) -> Counted
-        ensures { λ r. ⌜ r ≡ discardsOf self ⌝ }
+    fn asked(self, n: u32) -> Counted
+        ensures { λ r. ⌜ r ≡ askedOf self n ⌝ }
     {
         let m = self.framer.meter;
         if !sound(self.count, m) {
@@ -84,7 +84,21 @@ impl Engine {
         }
         Counted {
             answer: 0,
-            count: m.discards,
+            count: n,
         }
+    }
+
+    pub fn discards(self) -> Counted
+        ensures { λ r. ⌜ r ≡ discardsOf self ⌝ }
+    {
+        let m = self.framer.meter;
+        self.asked(m.discards)
+    }
+
+    pub fn failures(self) -> Counted
+        ensures { λ r. ⌜ r ≡ failuresOf self ⌝ }
+    {
+        let m = self.framer.meter;
+        self.asked(m.failures)
     }
 }

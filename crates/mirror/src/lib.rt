@@ -1,4 +1,5 @@
 pub mod engine;
+pub mod failed;
 pub mod report;
 pub mod setup;
 pub mod source;

@@ -1,5 +1,6 @@
 // Calls of the engine. Each hands the engine on, since it is kept by value from line to line.
 use codec::number::Put;
+use mirror::engine::Counted;
 use mirror::engine::Engine;
 use mirror::engine::Outcome;
 use mirror::engine::Timed;
@@ -46,8 +47,8 @@ pub(crate) fn timed(outcome: Timed, out: &mut [u8], at: usize) -> Made {
     }
 }
 
-fn discards(engine: Engine, out: &mut [u8], at: usize) -> Made {
-    let counted = engine.discards();
+// A count that is asked for.
+fn counted(engine: Engine, counted: Counted, out: &mut [u8], at: usize) -> Made {
     Made {
         engine,
         put: script::answer::numbered(out, at, counted.answer, counted.count as u64),
@@ -109,7 +110,9 @@ pub(crate) fn make(engine: Engine, call: Call, line: &[u8], out: &mut [u8], at: 
     match call {
         Call::New => fresh(out, at),
         Call::Offline => done(engine.offline(), out, at),
-        Call::Discards => discards(engine, out, at),
+        Call::Failed => done(engine.failed(), out, at),
+        Call::Discards => counted(engine, engine.discards(), out, at),
+        Call::Failures => counted(engine, engine.failures(), out, at),
         Call::Take(size) => take(engine, size as usize, out, at),
         Call::Tick(time) => timed(engine.tick(time), out, at),
         Call::Setup {

@@ -9,12 +9,14 @@ use Rattle.script.specs.Word.{openNumber, openNarrow, openFlag, openStam
 use Rattle.script.specs.declared.call.Call.{Call}
 use Rattle.script.specs.declared.call.Call.the-variants as Call
 
--- new, offline, discards
+-- new, offline, failed, discards, failures
 unfoldable pub oneWordOf : List ℕ → Call
 oneWordOf name =
     pick (sameOf name (110 ∷ 101 ∷ 119 ∷ [])) Call.New
     (pick (sameOf name (111 ∷ 102 ∷ 102 ∷ 108 ∷ 105 ∷ 110 ∷ 101 ∷ [])) Call.Offline
-    (pick (sameOf name (100 ∷ 105 ∷ 115 ∷ 99 ∷ 97 ∷ 114 ∷ 100 ∷ 115 ∷ [])) Call.Discards Call.Bad))
+    (pick (sameOf name (102 ∷ 97 ∷ 105 ∷ 108 ∷ 101 ∷ 100 ∷ [])) Call.Failed
+    (pick (sameOf name (100 ∷ 105 ∷ 115 ∷ 99 ∷ 97 ∷ 114 ∷ 100 ∷ 115 ∷ [])) Call.Discards
+    (pick (sameOf name (102 ∷ 97 ∷ 105 ∷ 108 ∷ 117 ∷ 114 ∷ 101 ∷ 115 ∷ [])) Call.Failures Call.Bad))))
 
 -- take SIZE, the size at most 2,048
 unfoldable pub takingOf : List ℕ → Call

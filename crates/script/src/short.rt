@@ -18,8 +18,14 @@ pub(crate) fn one_word(name: &[u8]) -> Call
     if text::line::same(name, b"offline") {
         return Call::Offline;
     }
+    if text::line::same(name, b"failed") {
+        return Call::Failed;
+    }
     if text::line::same(name, b"discards") {
         return Call::Discards;
+    }
+    if text::line::same(name, b"failures") {
+        return Call::Failures;
     }
     Call::Bad
 }

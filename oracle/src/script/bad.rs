@@ -5,7 +5,7 @@ use super::valid;
 use crate::random::Random;
 
 /// `F` stands for the digits of a right frame.
-const BAD: [&str; 66] = [
+const BAD: [&str; 71] = [
     // no such call
     "reads F",
     "READ F",
@@ -42,6 +42,11 @@ const BAD: [&str; 66] = [
     "step 14 F -",
     "payload 14 F 0",
     "rewrite 99 F F",
+    "failed 0",
+    "failed -",
+    "failed F",
+    "failures 0",
+    "failures -",
     // spaces where none belong, and separators that are none
     " read F",
     "  new",

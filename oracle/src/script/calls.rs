@@ -164,6 +164,10 @@ fn payload(scene: &mut Scene, id: Id) -> Word {
     if scene.random.one_in(40) {
         length = most;
     }
+    // A loss makes the item a byte longer, with which it just fits, or just does not.
+    if scene.engine().framer().lost() && scene.random.one_in(3) {
+        length = scene.random.pick(&[exact, exact + 1]);
+    }
     let edges = match id {
         Id::Can(key) if key & CAN_FD != 0 => vec![0, 8, 9, most, left(14) + 1, 64, 65],
         Id::Can(_) | Id::Lin(_) => vec![0, 7, 8, 9],
@@ -313,6 +317,11 @@ pub fn remove(scene: &mut Scene, number: usize) -> Draft {
     };
     let words = vec![Word::within(place, 0, 7, WIDE)];
     of_source("remove", scene, number, words)
+}
+
+/// It has no words that could go to an edge; a bad line is made of it all the same.
+pub fn failed() -> Draft {
+    Draft::new("failed", Vec::new())
 }
 
 /// The largest output is left to a few lines of its own: it makes long answers.

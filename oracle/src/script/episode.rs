@@ -20,6 +20,7 @@ const EVERYDAY: Mood = &[
     (8, tick),
     (9, take),
     (1, discards),
+    (3, failed),
     (2, add_filter),
     (1, remove_filter),
     (1, start),
@@ -37,6 +38,7 @@ const OVERRUN: Mood = &[
     (3, take),
     (1, drain),
     (3, discards),
+    (3, failed),
     (1, begin_again),
     (80, disturbed),
 ];
@@ -48,6 +50,7 @@ const STATES: Mood = &[
     (3, start),
     (2, stop),
     (9, take),
+    (3, failed),
     (1, begin_again),
     (90, disturbed),
 ];
@@ -68,6 +71,7 @@ const CARELESS: Mood = &[
     (4, update),
     (3, tick),
     (4, take),
+    (2, failed),
     (150, disturbed),
     (4, bad_line),
     (1, setup_again),
@@ -78,7 +82,7 @@ const MOODS: [Mood; 7] = [
     EVERYDAY, EVERYDAY, OVERRUN, OVERRUN, STATES, FILTERS, CARELESS,
 ];
 
-const BEFORE_SETUP: [&str; 23] = [
+const BEFORE_SETUP: [&str; 25] = [
     "start 0",
     "stop 0",
     "can 0 16 0 0x123 0102",
@@ -99,7 +103,9 @@ const BEFORE_SETUP: [&str; 23] = [
     "flexray-filter 0 0 0 0 0 0",
     "remove 0 0",
     "take 4",
+    "failed",
     "discards",
+    "failures",
     "offline",
     "switch 64 1 1",
 ];
@@ -123,6 +129,7 @@ pub fn any_episode(sheet: &mut Sheet, random: &mut Random) {
     }
     drain(&mut scene);
     discards(&mut scene);
+    failures(&mut scene);
 }
 
 fn chosen(random: &mut Random, mood: Mood) -> Step {
@@ -142,6 +149,9 @@ fn begin(scene: &mut Scene) {
     while scene.random.one_in(6) {
         let line = scene.random.pick(&BEFORE_SETUP);
         scene.sheet.line(line);
+    }
+    if scene.random.one_in(3) {
+        scene.sheet.line("failed");
     }
     while scene.random.one_in(4) && scene.engine().sources().is_empty() {
         let mut draft = any_setup(scene);
@@ -244,6 +254,9 @@ fn take(scene: &mut Scene) {
     let answer = scene.say(&draft);
     if let Some(frame) = taken_frame(&answer) {
         read_back(scene, &frame);
+        if scene.random.one_in(6) {
+            scene.sheet.line("failed");
+        }
     }
 }
 
@@ -280,6 +293,25 @@ fn drain(scene: &mut Scene) {
 
 fn discards(scene: &mut Scene) {
     scene.sheet.line("discards");
+}
+
+/// Says so whether or not a frame is out, and often of a second frame before an item tells the loss.
+fn failed(scene: &mut Scene) {
+    if scene.random.one_in(6) {
+        failures(scene);
+    }
+    scene.sheet.line("failed");
+    if scene.engine().framer().lost() && scene.random.one_in(2) {
+        take(scene);
+        scene.sheet.line("failed");
+    }
+    if scene.random.one_in(3) {
+        failures(scene);
+    }
+}
+
+fn failures(scene: &mut Scene) {
+    scene.sheet.line("failures");
 }
 
 fn add_filter(scene: &mut Scene) {
@@ -326,8 +358,12 @@ fn stop(scene: &mut Scene) {
     scene.say(&calls::stop(scene, number));
 }
 
-/// Offline or a switch, then a look at what is left.
+/// Offline or a switch, often behind a failure, then a look at what is left.
 fn begin_again(scene: &mut Scene) {
+    if scene.random.one_in(2) {
+        take(scene);
+        failed(scene);
+    }
     if scene.random.one_in(2) {
         scene.sheet.line("offline");
     } else {
@@ -335,8 +371,12 @@ fn begin_again(scene: &mut Scene) {
         scene.say(&calls::switch(size, room, deadline));
     }
     if scene.random.one_in(2) {
+        failed(scene);
+    }
+    if scene.random.one_in(2) {
         take(scene);
         discards(scene);
+        failures(scene);
     }
     if !scene.random.one_in(4) {
         start_most(scene);
@@ -350,7 +390,7 @@ fn setup_again(scene: &mut Scene) {
 
 fn any_draft(scene: &mut Scene) -> Draft {
     let number = scene.any_source();
-    match scene.random.below(32) {
+    match scene.random.below(33) {
         0..=11 => any_report(scene, number),
         12..=15 => calls::state(scene, number),
         16..=20 => calls::filter(scene, number),
@@ -359,6 +399,7 @@ fn any_draft(scene: &mut Scene) -> Draft {
         24 => calls::stop(scene, number),
         25..=27 => calls::tick(scene),
         28..=30 => calls::take(scene),
+        31 => calls::failed(),
         _ => calls::switch(64, 2, 1),
     }
 }

@@ -8,6 +8,8 @@ mod damage;
 mod draft;
 mod edges;
 mod episode;
+mod failed;
+mod failed_items;
 mod garble;
 mod long;
 mod near;
@@ -40,6 +42,8 @@ pub fn make(seed: u64, lines: usize) -> Vec<u8> {
     edges::every_edge(&mut sheet, &mut random);
     pid_reports::every_report(&mut sheet, &mut random);
     clock::every_step_back(&mut sheet);
+    failed::every_failure(&mut sheet);
+    failed_items::every_item(&mut sheet);
     valid::every_form(&mut sheet, &mut random);
     sweep::every_value(&mut sheet, &mut random);
     pid_frames::every_frame(&mut sheet, &mut random);
@@ -108,7 +112,7 @@ mod tests {
                 assert!(counts.contains(&wanted), "{refusal} with seed {seed}");
             }
             assert!(counts.contains("step 30 ") && counts.contains("rewrite 12 "));
-            for cause in 1..=14 {
+            for cause in (1..=14).chain([17]) {
                 let wanted = format!(" {cause} ");
                 assert!(counts.contains(&wanted), "{cause} with seed {seed}");
             }

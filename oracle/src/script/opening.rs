@@ -17,13 +17,18 @@ fn full_report(sheet: &mut Sheet, second: usize) {
     sheet.line(&format!("can 0 {second} 0 0x123 0102030405060708"));
 }
 
+/// Each frame is called failed, so that every item tells a loss.
 fn sequence_numbers(sheet: &mut Sheet) {
-    sheet.note("Sequence number 255, then 0.");
+    sheet.note("Sequence number 255, then 0, and 258 sends that failed.");
     sheet.text(FULL_AT_ONCE);
     full_report(sheet, 0);
     for second in 1..=258 {
         full_report(sheet, second);
         sheet.line("take 32");
+        sheet.line("failed");
+        if second > 253 {
+            sheet.line("failures");
+        }
     }
 }
 

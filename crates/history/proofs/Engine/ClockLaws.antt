@@ -72,7 +72,9 @@ module _ (c : Limits) (e : Engine) (l : Ledger) (t : Tied c (e .framer) l) where
   tells-by (Call.slots source low high lowCycle highCycle repetition) = refl
   tells-by (Call.remove source number) = refl
   tells-by (Call.take out) = refl
+  tells-by Call.failed = refl
   tells-by Call.discards = refl
+  tells-by Call.failures = refl
 
 -- a moment among the deeds: the calls before it, and its own
 pub record Moment (e : Engine) (before : List Deed) (d : Deed) : Type 0 where

@@ -30,6 +30,7 @@ use Rattle.mirror.specs.Source.{startOf, stopOf, updateOf, addOf, removeOf}
 use Rattle.mirror.specs.Report.{reported, reportOf}
 use Rattle.mirror.specs.Tick.{ticked, tickOf}
 use Rattle.mirror.specs.Take.{takenOf}
+use Rattle.mirror.specs.Failed.{failedOf}
 use Rattle.mirror.specs.Call.{Call, stepOf}
 use Rattle.mirror.specs.Call as Call
 use Rattle.mirror.specs.declared.engine.Engine.{Engine}
@@ -162,7 +163,7 @@ module _ (e : Engine) (s : Steady e) where
         healthy = states-healthy t (e .count) 0 e (s .healthy);
       })
 
-  -- a take, and the question for the discard count, leave the accounts as they are
+  -- a take, a failed send and the questions for the counts leave the accounts as they are
   take-does : (n : ℕ) → takenOf e n .answer ≡ 0 → Does e (bookOf e) (Rules.take ∷ []) (takenOf e n .engine)
   unfolding takenOf bookOf
   take-does n z =
@@ -170,6 +171,21 @@ module _ (e : Engine) (s : Steady e) where
       rw (s .sound) (record {
         book = refl;
         framer = taking (e .framer) n y .framer;
+        fit = λ c q. (tt, tt);
+        count = refl;
+        eight = s .eight;
+        healthy = s .healthy;
+      })
+
+  -- a failed send that is accepted finds a frame out
+  fail-does : failedOf e .answer ≡ 0 → Does e (bookOf e) (Rules.fail ∷ []) (failedOf e .engine)
+  unfolding failedOf bookOf
+  fail-does z =
+      let h = accepted e _ _ z in
+      let o : e .framer .meter .out ≡ true = Opened.chosen (e .framer .meter .out) 0 17 (h .0) (wrong 16) (λ q r. q) in
+      rw (h .1) (record {
+        book = refl;
+        framer = rw o;
         fit = λ c q. (tt, tt);
         count = refl;
         eight = s .eight;
@@ -211,7 +227,9 @@ does e (Call.slots k low high lowCycle highCycle repetition) s p z = add-does e 
 does e (Call.remove k number) s p z = remove-does e s k number z
 does e (Call.tick t) s p z = tick-does e s t z
 does e (Call.take out) s p z = take-does e s (length out) z
+does e Call.failed s p z = fail-does e s z
 does e Call.discards s p z = none-does e s
+does e Call.failures s p z = none-does e s
 
 -- the parts of it, and that a refused call keeps what holds
 module _ (e : Engine) (x : Call) (s : Steady e) (p : Plain x) where

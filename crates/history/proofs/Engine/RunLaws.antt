@@ -49,22 +49,24 @@ out-by c e l (Call.lin-mask source mask code) s t z = refl
 out-by c e l (Call.lin-range source lower upper) s t z = refl
 out-by c e l (Call.slots source low high lowCycle highCycle repetition) s t z = refl
 out-by c e l (Call.remove source number) s t z = refl
+out-by c e l Call.failed s t z = refl
 out-by c e l Call.discards s t z = refl
+out-by c e l Call.failures s t z = refl
 
 -- one call, accepted or not: the operations of its deed, and what they leave
-unfoldable opsBy : List Account → Deed → List Op
+unfoldable pub opsBy : List Account → Deed → List Op
 opsBy book d = pick (done d) (opsOf book (meaning (d .call))) []
 
 abbrev pub deedOf : Engine → Call → Deed
 deedOf e x = record { call = x; said = stepOf e x .said }
 
-record Stepped (c : Limits) (e : Engine) (l : Ledger) (x : Call) : Type 0 where
-  book : bookOf (stepOf e x .engine) ≡ accountsBy (bookOf e) (deedOf e x)
-  framer : stepOf e x .engine .framer ≡ runW (e .framer) (opsBy (bookOf e) (deedOf e x))
-  fit : All (FitOp c) (opsBy (bookOf e) (deedOf e x))
-  out : pick (done (deedOf e x)) (frameOut (meaning x) (stepOf e x .said)) [] ≡ map laid (gotOn c l (opsBy (bookOf e) (deedOf e x)))
+pub record Stepped (c : Limits) (e : Engine) (l : Ledger) (x : Call) : Type 0 where
+  pub book : bookOf (stepOf e x .engine) ≡ accountsBy (bookOf e) (deedOf e x)
+  pub framer : stepOf e x .engine .framer ≡ runW (e .framer) (opsBy (bookOf e) (deedOf e x))
+  pub fit : All (FitOp c) (opsBy (bookOf e) (deedOf e x))
+  pub out : pick (done (deedOf e x)) (frameOut (meaning x) (stepOf e x .said)) [] ≡ map laid (gotOn c l (opsBy (bookOf e) (deedOf e x)))
 
-stepped : (c : Limits) (e : Engine) (l : Ledger) (x : Call) → Steady e → Plain x → Tied c (e .framer) l → Stepped c e l x
+pub stepped : (c : Limits) (e : Engine) (l : Ledger) (x : Call) → Steady e → Plain x → Tied c (e .framer) l → Stepped c e l x
 unfolding opsBy accountsBy done
 stepped c e l x s p t = go (eqb (stepOf e x .said .answer) 0) refl
   where
@@ -89,7 +91,7 @@ pub record Ran (c : Limits) (e : Engine) (l : Ledger) (xs : List Call) : Type 0 
   pub out : framesTaken (deedsOf e xs) ≡ map laid (gotOn c l (opsOn (bookOf e) (deedsOf e xs)))
   pub answers : All (λ (d : Deed). d .said .answer ≡ 19 → ⊥) (deedsOf e xs)
 
-ops-more : (c : Limits) (e : Engine) (l : Ledger) (x : Call) (xs : List Call) → Stepped c e l x
+pub ops-more : (c : Limits) (e : Engine) (l : Ledger) (x : Call) (xs : List Call) → Stepped c e l x
     → opsOn (bookOf e) (deedsOf e (x ∷ xs)) ≡ opsBy (bookOf e) (deedOf e x) ++ opsOn (bookOf (stepOf e x .engine)) (deedsOf (stepOf e x .engine) xs)
 unfolding opsBy
 ops-more c e l x xs n = rw (n .book)

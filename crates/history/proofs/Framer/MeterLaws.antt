@@ -4,7 +4,7 @@ use mathlib.Core.Path.{_≡_, refl, sym, _∙_, ap}
 use mathlib.Core.Bool.{Bool, true, false, not, _&&_, _||_}
 use mathlib.Core.List.{List, [], _∷_, _++_}
 use native.Mathlib.Omega.{arith}
-use lib.ListN.{length}
+use lib.ListN.{length, drop}
 use lib.Dec.{ltb, leb, eqb}
 use borrow.Author.Tests.{ne-eqb, le-ltb, le-leb}
 use Rattle.codec.specs.Choice.{pick}
@@ -15,18 +15,18 @@ use Rattle.codec.specs.declared.time.Ticks.{Ticks}
 use Rattle.codec.specs.declared.time.Nanos.{Nanos}
 use Rattle.codec.specs.declared.time.Elapsed.the-variants as Elapsed
 use Rattle.codec.proofs.BoolLaws.{or-false, or-true}
-use Rattle.framer.specs.Meter.{isWithin, ticksIn, backIn, stateShown, itemOf, offsetFor, backFor, closesFor, counted, closedMeter, placedMeter, takenMeter}
+use Rattle.framer.specs.Meter.{isWithin, ticksIn, backIn, stateShown, itemOf, offsetFor, backFor, closesFor, counted, closedMeter, placedMeter, takenMeter, failedMeter}
 use Rattle.framer.specs.Framer.{itemSize, filledMeter}
 use Rattle.framer.specs.declared.meter.Meter.{Meter}
 use Rattle.framer.proofs.FramerLaws.{back-by}
 use Rattle.history.specs.Account.{Event}
-use Rattle.history.specs.Ledger.{Limits, Line, Frame, Ledger, stateIn, itemIn, sizeIn, total, isEmpty, discardCount, waitingIn, offsetIn, lineFor, closesBefore, hasRoom, overdue, close, enter, taken}
+use Rattle.history.specs.Ledger.{Limits, Line, Frame, Ledger, stateIn, itemIn, sizeIn, total, isEmpty, keptIn, discardCount, waitingIn, failuresIn, failureCount, isOut, offsetIn, lineFor, closesBefore, hasRoom, overdue, close, enter, taken}
 use Rattle.history.specs.Clock.{behind}
 use Rattle.history.proofs.Ground.Machine.{offerIn}
 use Rattle.history.proofs.Ground.BitLaws.{raise-lost}
 use Rattle.history.proofs.Ground.TestLaws.{not-leb}
 use Rattle.history.proofs.Ground.ListLaws.{snoc-filled}
-use Rattle.history.proofs.Ledger.Moves.{opened, taken-none, taken-one, tookOne}
+use Rattle.history.proofs.Ledger.Moves.{opened, taken-none, taken-one, tookOne, failedOne}
 use Rattle.history.proofs.Ledger.LedgerLaws.{SoundL, close-waits, close-discards, took-waiting}
 use Rattle.history.proofs.Ledger.FrameLaws.{total-more}
 
@@ -45,14 +45,17 @@ meterOf c l = record {
   sequence = l .next;
   lost = l .lost;
   discards = discardCount l;
-  first = l .taken % 8;
+  out = isOut (l .sends);
+  failures = failureCount l;
+  first = length (l .sends) % 8;
   waiting = length (waitingIn l);
 }
 
 -- a meter by its fields
 meter-path : {m n : Meter} → m .size ≡ n .size → m .room ≡ n .room → m .deadline ≡ n .deadline → m .filled ≡ n .filled → m .time ≡ n .time
-    → m .sequence ≡ n .sequence → m .lost ≡ n .lost → m .discards ≡ n .discards → m .first ≡ n .first → m .waiting ≡ n .waiting → m ≡ n
-meter-path a b d f g h i j k o = λ x. record {
+    → m .sequence ≡ n .sequence → m .lost ≡ n .lost → m .discards ≡ n .discards → m .out ≡ n .out → m .failures ≡ n .failures → m .first ≡ n .first
+    → m .waiting ≡ n .waiting → m ≡ n
+meter-path a b d f g h i j u v k o = λ x. record {
   size = a x;
   room = b x;
   deadline = d x;
@@ -61,6 +64,8 @@ meter-path a b d f g h i j k o = λ x. record {
   sequence = h x;
   lost = i x;
   discards = j x;
+  out = u x;
+  failures = v x;
   first = k x;
   waiting = o x;
 }
@@ -128,18 +133,18 @@ ticks-same h t a b = rw (le-ltb t h a, le-leb ((t - h) / 10000) 65535 b)
 
 -- rule 3
 pub close-meter : (c : Limits) (l : Ledger) → SoundL c l → closedMeter (meterOf c l) ≡ meterOf c (close c l)
-unfolding closedMeter meterOf counted close filledIn hasRoom discardCount
+unfolding closedMeter meterOf counted close filledIn hasRoom discardCount failureCount
 close-meter c l s = go (hasRoom c l) refl
   where
     go : (b : Bool) → hasRoom c l ≡ b → closedMeter (meterOf c l) ≡ meterOf c (close c l)
     go true e =
         let d = rw e at (close-discards c l) in
         let w = rw e at (close-waits c l s) in
-        rw e (meter-path refl refl refl refl refl refl (sym (or-false (l .lost))) (omega arith) refl (omega arith))
+        rw e (meter-path refl refl refl refl refl refl (sym (or-false (l .lost))) (omega arith) refl refl refl (omega arith))
     go false e =
         let d = rw e at (close-discards c l) in
         let w = rw e at (close-waits c l s) in
-        rw e (meter-path refl refl refl refl refl refl (sym (or-true (l .lost))) (omega arith) refl (omega arith))
+        rw e (meter-path refl refl refl refl refl refl (sym (or-true (l .lost))) (omega arith) refl refl refl (omega arith))
 
 pub filled-more : (xs : List Line) (x : Line) → filledIn (xs ++ (x ∷ [])) ≡ 14 + total xs + sizeIn x
 filled-more xs x = filled-open (xs ++ (x ∷ [])) (snoc-filled xs x) ∙ omega (arith, total-more xs x)
@@ -152,20 +157,20 @@ one-filled t l ev e = omega arith
 -- rule 1: an item in a frame just opened, and in one that stays open
 pub begin-meter : (c : Limits) (l : Ledger) (ev : Event) → ev .state < 128 → l .filling .lines ≡ []
     → filledMeter (meterOf c l) (ev .time) (offerIn ev) (length (ev .payload)) ≡ meterOf c (enter ev (opened (ev .time) l))
-unfolding filledMeter itemSize placedMeter meterOf enter waitingIn discardCount
+unfolding filledMeter itemSize placedMeter meterOf enter waitingIn discardCount failureCount
 begin-meter c l ev h e =
     let z : eqb (filledIn (l .filling .lines)) 0 ≡ true = filled-zero (l .filling .lines) ∙ rw e in
     let n = size-same l ev (offsetFor (meterOf c l) (ev .time)) h in
-    rw z (meter-path refl refl refl (one-filled (ev .time) l ev (omega arith)) refl refl refl refl refl refl)
+    rw z (meter-path refl refl refl (one-filled (ev .time) l ev (omega arith)) refl refl refl refl refl refl refl refl)
 
 pub enter-meter : (c : Limits) (l : Ledger) (ev : Event) → ev .state < 128 → isEmpty (l .filling .lines) ≡ false
     → filledMeter (meterOf c l) (ev .time) (offerIn ev) (length (ev .payload)) ≡ meterOf c (enter ev l)
-unfolding filledMeter itemSize placedMeter meterOf enter waitingIn discardCount
+unfolding filledMeter itemSize placedMeter meterOf enter waitingIn discardCount failureCount
 enter-meter c l ev h e =
     let z : eqb (filledIn (l .filling .lines)) 0 ≡ false = filled-zero (l .filling .lines) ∙ e in
     let n = size-same l ev (offsetFor (meterOf c l) (ev .time)) h in
     let f = filled-open (l .filling .lines) e in
-    rw z (meter-path refl refl refl (sym (filled-more (l .filling .lines) (lineFor l ev) ∙ omega arith)) refl refl refl refl refl refl)
+    rw z (meter-path refl refl refl (sym (filled-more (l .filling .lines) (lineFor l ev) ∙ omega arith)) refl refl refl refl refl refl refl refl)
 
 -- how far a clock is behind
 pub back-same : (c : Limits) (l : Ledger) (t : Time) → backFor (meterOf c l) t .0 ≡ behind l t
@@ -179,10 +184,18 @@ back-same c l t = rw (filled-zero (l .filling .lines)) (go (isEmpty (l .filling 
 
 -- rule 7
 pub take-meter : (c : Limits) (l : Ledger) (fs : List Frame) → waitingIn l ≡ fs → takenMeter (meterOf c l) ≡ meterOf c (taken l)
-unfolding takenMeter meterOf discardCount
+unfolding takenMeter meterOf discardCount failureCount
 take-meter c l [] e = rw (taken-none l e, e)
 take-meter c l (f ∷ fs) e =
     let n : length (waitingIn l) ≡ suc (length fs) = ap length e in
     let z : eqb (length (waitingIn l)) 0 ≡ false = ne-eqb (length (waitingIn l)) 0 (λ q. let y : ⊥ = omega arith in y) in
     let d : length (waitingIn (tookOne l)) ≡ length fs = ap length (took-waiting l f fs e) in
-    rw (taken-one l f fs e, z) (meter-path refl refl refl refl refl refl refl refl (omega arith) (omega arith))
+    rw (taken-one l f fs e, z) (meter-path refl refl refl refl refl refl refl refl refl refl (omega arith) (omega arith))
+
+-- rule 8
+pub fail-meter : (c : Limits) (l : Ledger) (bs : List Bool) → l .sends ≡ false ∷ bs → failedMeter (meterOf c l) ≡ meterOf c (failedOne bs l)
+unfolding failedMeter meterOf counted failureCount discardCount waitingIn
+fail-meter c l bs e =
+    let n : length (l .sends) ≡ suc (length bs) = ap length e in
+    let k : failuresIn (l .sends) ≡ failuresIn bs = ap failuresIn e in
+    meter-path refl refl refl refl refl refl refl refl refl (omega arith) (omega arith) (ap (λ (i : ℕ). length (drop i (keptIn (l .closed)))) n)

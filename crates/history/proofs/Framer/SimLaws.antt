@@ -1,6 +1,6 @@
 -- The framer is the ledger, and stays so with every operation.
-use Prim.Native.Nat.{ℕ, _+_, _%_, _≤_, _<_}
-use mathlib.Core.Path.{_≡_, refl, sym, _∙_, ap}
+use Prim.Native.Nat.{ℕ, suc, _+_, _%_, _≤_, _<_}
+use mathlib.Core.Path.{_≡_, refl, sym, _∙_, ap, subst}
 use mathlib.Core.Bool.{Bool, true, false, not, _&&_, true≢false}
 use mathlib.Core.List.{List, [], _∷_, map, map-append, append-nil}
 use native.Mathlib.Omega.{arith}
@@ -11,31 +11,31 @@ use borrow.Author.Tests.{ltb-true, le-ltb}
 use Rattle.codec.specs.Choice.{pick}
 use Rattle.codec.specs.Time.{ns, overdueOf}
 use Rattle.codec.specs.declared.time.Time.{Time}
-use Rattle.framer.specs.Meter.{limitsOk, emptyMeter, soundMeter, Sound, closesFor, slotOf, closedMeter, takenMeter}
+use Rattle.framer.specs.Meter.{limitsOk, emptyMeter, soundMeter, Sound, closesFor, slotOf, closedMeter, takenMeter, failedMeter}
 use Rattle.framer.specs.Queue.{emptyQueue, queued, lengthAt}
-use Rattle.framer.specs.Framer.{emptyFramer, closed, placed, added, add, passed, takeOf}
+use Rattle.framer.specs.Framer.{emptyFramer, closed, placed, added, add, passed, takeOf, failed}
 use Rattle.framer.specs.declared.meter.Meter.{Meter}
 use Rattle.framer.specs.declared.framer.Framer.{Framer}
 use Rattle.framer.proofs.FramerLaws.{sounds, add-is}
-use Rattle.framer.proofs.KeptLaws.{kept-empty, kept-add, kept-pass, kept-take}
+use Rattle.framer.proofs.KeptLaws.{kept-empty, kept-add, kept-pass, kept-take, kept-failed}
 use Rattle.history.specs.Account.{Event}
-use Rattle.history.specs.Ledger.{Limits, Frame, Ledger, Op, total, isEmpty, waitingIn, hasRoom, closesBefore, overdue, close, begin, enter, mirrored, taken, emptyLedger, discardCount, stepL, runL}
+use Rattle.history.specs.Ledger.{Limits, Frame, Ledger, Op, total, isEmpty, waitingIn, hasRoom, closesBefore, overdue, close, begin, enter, mirrored, taken, isOut, emptyLedger, discardCount, failureCount, stepL, runL}
 use Rattle.history.specs.Ledger as Rules
 use Rattle.history.specs.History.{slotsFrom, All}
 use Rattle.history.proofs.Ground.Machine.{offerIn, laid, Fit, FitOp, stepW, runW}
 use Rattle.history.proofs.Ground.ListLaws.{empty-is}
-use Rattle.history.proofs.Ledger.Moves.{Ready, begin-opens, begin-stays, closes-filled, overdue-filled, open-ready, taken-none, taken-one, opened}
+use Rattle.history.proofs.Ledger.Moves.{Ready, begin-opens, begin-stays, closes-filled, overdue-filled, open-ready, taken-none, taken-one, opened, failedOne, Out, none-out, one-out, out-or-not, failed-none, failed-one}
 use Rattle.history.proofs.Ledger.LedgerLaws.{SoundL, close-waiting, close-waits, took-waiting, step-sound, empty-sound}
 use Rattle.history.proofs.Ledger.FrameLaws.{laid-length}
 use Rattle.history.proofs.Framer.SlotLaws.{Store, push, put-store}
-use Rattle.history.proofs.Framer.MeterLaws.{filledIn, meterOf, closes-same, overdue-same, take-meter, filled-open, close-meter, begin-meter, enter-meter}
+use Rattle.history.proofs.Framer.MeterLaws.{filledIn, meterOf, closes-same, overdue-same, take-meter, fail-meter, filled-open, close-meter, begin-meter, enter-meter}
 use Rattle.history.proofs.Framer.FillLaws.{imageIn, image-front, begin-bytes, enter-bytes}
 
 -- the same numbers, the array of the frame being filled, and in the slots the frames that wait
 pub record Tie (c : Limits) (w : Framer) (l : Ledger) : Type 0 where
   pub meter : w .meter ≡ meterOf c l
   pub bytes : w .bytes ≡ imageIn (l .filling)
-  pub slots : slotsFrom (w .queue) (l .taken) (length (waitingIn l)) ≡ map laid (waitingIn l)
+  pub slots : slotsFrom (w .queue) (length (l .sends)) (length (waitingIn l)) ≡ map laid (waitingIn l)
   pub store : Store (w .queue)
 
 -- rule 3: the frame goes behind those that wait, or nowhere
@@ -45,20 +45,20 @@ module _ (c : Limits) (w : Framer) (l : Ledger) (t : Tie c w l) (s : SoundL c l)
   unfolding meterOf
   frame-is = rw (t .meter, t .bytes) (image-front (l .filling) e)
 
-  queue-is : closed w .queue ≡ pick (hasRoom c l) (queued (w .queue) ((l .taken + length (waitingIn l)) % 8) (laid (l .filling))) (w .queue)
+  queue-is : closed w .queue ≡ pick (hasRoom c l) (queued (w .queue) ((length (l .sends) + length (waitingIn l)) % 8) (laid (l .filling))) (w .queue)
   unfolding closed slotOf hasRoom meterOf
   queue-is =
-      let m : (l .taken % 8 + length (waitingIn l)) % 8 ≡ (l .taken + length (waitingIn l)) % 8 = omega arith in
+      let m : (length (l .sends) % 8 + length (waitingIn l)) % 8 ≡ (length (l .sends) + length (waitingIn l)) % 8 = omega arith in
       rw (frame-is, t .meter, m)
 
   close-slots : (b : Bool) → hasRoom c l ≡ b
-      → (slotsFrom (closed w .queue) (l .taken) (length (waitingIn (close c l))) ≡ map laid (waitingIn (close c l))) × Store (closed w .queue)
+      → (slotsFrom (closed w .queue) (length (l .sends)) (length (waitingIn (close c l))) ≡ map laid (waitingIn (close c l))) × Store (closed w .queue)
   unfolding hasRoom
   close-slots true q =
       let g : length (laid (l .filling)) ≤ 1024 = omega (arith, laid-length (l .filling)) in
       let k : length (waitingIn l) < c .room = ltb-true (length (waitingIn l)) (c .room) q in
-      let a : ℕ = (l .taken + length (waitingIn l)) % 8 in
-      let p = push (w .queue) a (laid (l .filling)) (t .store) (omega arith) g (l .taken) (length (waitingIn l)) refl (omega arith) in
+      let a : ℕ = (length (l .sends) + length (waitingIn l)) % 8 in
+      let p = push (w .queue) a (laid (l .filling)) (t .store) (omega arith) g (length (l .sends)) (length (waitingIn l)) refl (omega arith) in
       rw (queue-is, q) (
         rw (close-waits c l s, close-waiting c l s, q, add-one (length (waitingIn l))) (p ∙ rw (t .slots) (sym (map-append laid (waitingIn l) (l .filling ∷ [])))),
         put-store (w .queue) a (laid (l .filling)) (t .store) (omega arith) g,
@@ -110,7 +110,7 @@ pub record Tied (c : Limits) (w : Framer) (l : Ledger) : Type 0 where
   pub ledger : SoundL c l
 
 -- the slots of those that wait, where they are known
-pub slots-are : (c : Limits) (w : Framer) (l : Ledger) → Tie c w l → (fs : List Frame) → waitingIn l ≡ fs → slotsFrom (w .queue) (l .taken) (length fs) ≡ map laid fs
+pub slots-are : (c : Limits) (w : Framer) (l : Ledger) → Tie c w l → (fs : List Frame) → waitingIn l ≡ fs → slotsFrom (w .queue) (length (l .sends)) (length fs) ≡ map laid fs
 slots-are c w l t fs e = rw (← e) (t .slots)
 
 module _ (c : Limits) (w : Framer) (l : Ledger) (t : Tied c w l) where
@@ -162,9 +162,9 @@ module _ (c : Limits) (w : Framer) (l : Ledger) (t : Tied c w l) where
       go false e = t .tie
 
   -- rule 7
-  take-slots : (fs : List Frame) → waitingIn l ≡ fs → slotsFrom (w .queue) (taken l .taken) (length (waitingIn (taken l))) ≡ map laid (waitingIn (taken l))
+  take-slots : (fs : List Frame) → waitingIn l ≡ fs → slotsFrom (w .queue) (length (taken l .sends)) (length (waitingIn (taken l))) ≡ map laid (waitingIn (taken l))
   take-slots [] e = rw (taken-none l e) (t .tie .slots)
-  take-slots (f ∷ fs) e = rw (taken-one l f fs e, took-waiting l f fs e, add-one (l .taken)) (ap (drop 1) (slots-are c w l (t .tie) (f ∷ fs) e))
+  take-slots (f ∷ fs) e = rw (taken-one l f fs e, took-waiting l f fs e) (ap (drop 1) (slots-are c w l (t .tie) (f ∷ fs) e))
 
   take-tie : Tie c (record { meter = takenMeter (w .meter); bytes = w .bytes; queue = w .queue }) (taken l)
   unfolding taken
@@ -174,6 +174,27 @@ module _ (c : Limits) (w : Framer) (l : Ledger) (t : Tied c w l) where
     slots = take-slots (waitingIn l) refl;
     store = t .tie .store;
   }
+
+  -- rule 8
+  fail-one-tie : (bs : List Bool) → l .sends ≡ false ∷ bs → Tie c (failed w) (failedOne bs l)
+  unfolding failed waitingIn
+  fail-one-tie bs e = record {
+    meter = ap failedMeter (t .tie .meter) ∙ fail-meter c l bs e;
+    bytes = t .tie .bytes;
+    slots = rw e at (t .tie .slots);
+    store = t .tie .store;
+  }
+
+  pub out-is : w .meter .out ≡ isOut (l .sends)
+  unfolding meterOf
+  out-is = ap (λ (m : Meter). m .out) (t .tie .meter)
+
+  fail-tie : Tie c (pick (w .meter .out) (failed w) w) (Rules.failed l)
+  fail-tie = subst (λ (b : Bool). Tie c (pick b (failed w) w) (Rules.failed l)) (sym out-is) (go (out-or-not (l .sends)))
+    where
+      go : Out (l .sends) → Tie c (pick (isOut (l .sends)) (failed w) w) (Rules.failed l)
+      go (none-out e) = rw (failed-none l e, e) (t .tie)
+      go (one-out bs e) = rw (failed-one l bs e, e) (fail-one-tie bs e)
 
 -- each operation keeps the tie
 taken-sound : (w : Framer) → soundMeter (w .meter) ≡ true → soundMeter (takenMeter (w .meter)) ≡ true
@@ -198,6 +219,11 @@ step-tied c w l (Rules.deadline x) t f =
     record { tie = deadline-tie c w l t x; sound = kept-pass w x (t .sound); ledger = step-sound c l (Rules.deadline x) (t .ledger) }
 step-tied c w l Rules.take t f =
     record { tie = take-tie c w l t; sound = taken-sound w (t .sound); ledger = step-sound c l Rules.take (t .ledger) }
+step-tied c w l Rules.fail t f = record { tie = fail-tie c w l t; sound = go (w .meter .out); ledger = step-sound c l Rules.fail (t .ledger) }
+  where
+    go : (b : Bool) → soundMeter (pick b (failed w) w .meter) ≡ true
+    go true = kept-failed w (t .sound)
+    go false = t .sound
 
 pub run-tied : (c : Limits) (w : Framer) (l : Ledger) (ops : List Op) → Tied c w l → All (FitOp c) ops → Tied c (runW w ops) (runL c l ops)
 run-tied c w l [] t f = t
@@ -206,7 +232,7 @@ run-tied c w l (op ∷ ops) t f = run-tied c (stepW w op) (stepL c l op) ops (st
 -- after setup
 pub empty-tied : (c : Limits) → limitsOk (c .size) (c .room) (c .deadline) ≡ true
     → Tied c (emptyFramer (c .size) (c .room) (record { 0 = c .deadline })) emptyLedger
-unfolding emptyFramer emptyMeter emptyQueue emptyLedger meterOf imageIn waitingIn filledIn discardCount
+unfolding emptyFramer emptyMeter emptyQueue emptyLedger meterOf imageIn waitingIn filledIn discardCount failureCount
 empty-tied c h = record {
   tie = record { meter = refl; bytes = refl; slots = refl; store = record { bytes = length-replicate {A = ℕ} 8192 0; lengths = length-replicate {A = ℕ} 8 0 } };
   sound = kept-empty (c .size) (c .room) (record { 0 = c .deadline }) h;

@@ -2,12 +2,12 @@
 use Prim.Native.Nat.{ℕ, zero, suc, _+_}
 use mathlib.Core.Path.{_≡_, refl, sym, ap, _∙_}
 use mathlib.Core.Bool.{Bool, true, false, true≢false, false≢true}
-use mathlib.Core.List.{List, [], _∷_, _++_, map, append-assoc}
+use mathlib.Core.List.{List, [], _∷_, _++_, map, reverse, reverseAux, append-assoc}
 use native.Mathlib.Omega.{arith}
 use lib.ListN.{length, take, drop, getD, set, replicate}
 use lib.Seq.{drop-drop}
 use Rattle.codec.specs.Choice.{pick}
-use Rattle.history.specs.Ledger.{Frame, Closed, isEmpty, keptIn, discardedIn, linesClosed}
+use Rattle.history.specs.Ledger.{Frame, Closed, isEmpty, keptIn, discardedIn, unmarked, failuresIn, linesClosed}
 use Rattle.history.specs.History.{All, Both}
 
 -- lists with and without a member
@@ -81,6 +81,14 @@ module _ {A B : Type 0} (R : A → B → Type 0) where
   both-none [] (y ∷ ys) e p = absurd p
   both-none (x ∷ xs) ys e p = absurd (not-empty (x ∷ xs) refl e)
 
+  pub both-unmarked : (ms : List Bool) (xs : List A) (ys : List B) → Both R xs ys → Both R (unmarked ms xs) (unmarked ms ys)
+  both-unmarked [] xs ys p = tt
+  both-unmarked (m ∷ ms) [] [] p = tt
+  both-unmarked (m ∷ ms) [] (y ∷ ys) p = absurd p
+  both-unmarked (m ∷ ms) (x ∷ xs) [] p = absurd p
+  both-unmarked (true ∷ ms) (x ∷ xs) (y ∷ ys) p = both-unmarked ms xs ys (p .1)
+  both-unmarked (false ∷ ms) (x ∷ xs) (y ∷ ys) p = (p .0, both-unmarked ms xs ys (p .1))
+
   -- what is made of each member, beside it
   pub both-map : (P : B → Type 0) (f : B → A) → ((y : B) → P y → R (f y) y) → (ys : List B) → All P ys → Both R (map f ys) ys
   both-map P f k [] p = tt
@@ -111,3 +119,19 @@ lines-append (k ∷ a) b = rw (lines-append a b) (rw append-assoc)
 pub all-kept : (P : Frame → Type 0) (ks : List Closed) → All (λ (k : Closed). P (k .frame)) ks → All P (keptIn ks)
 all-kept P [] p = tt
 all-kept P (k ∷ ks) p = all-append P (pick (k .kept) (k .frame ∷ []) []) (keptIn ks) (all-pick P (k .kept) (k .frame) (p .0)) (all-kept P ks (p .1))
+
+-- those that are not marked, and the marks, make up the whole
+pub marks-counted : {A : Type 0} (ms : List Bool) (xs : List A) → length ms ≡ length xs → length (unmarked ms xs) + failuresIn ms ≡ length xs
+marks-counted [] [] e = refl
+marks-counted [] (x ∷ xs) e = let z : ⊥ = omega arith in absurd z
+marks-counted (m ∷ ms) [] e = let z : ⊥ = omega arith in absurd z
+marks-counted (true ∷ ms) (x ∷ xs) e = omega (arith, marks-counted ms xs (omega arith))
+marks-counted (false ∷ ms) (x ∷ xs) e = omega (arith, marks-counted ms xs (omega arith))
+
+marks-onto : (ms ns : List Bool) → failuresIn (reverseAux ms ns) ≡ failuresIn ms + failuresIn ns
+marks-onto [] ns = omega arith
+marks-onto (true ∷ ms) ns = omega (arith, marks-onto ms (true ∷ ns))
+marks-onto (false ∷ ms) ns = omega (arith, marks-onto ms (false ∷ ns))
+
+pub marks-reversed : (ms : List Bool) → failuresIn (reverse ms) ≡ failuresIn ms
+marks-reversed ms = omega (arith, marks-onto ms [])

@@ -4,13 +4,14 @@ use mathlib.Core.Path.{_≡_, refl}
 use mathlib.Core.Bool.{Bool, true}
 use mathlib.Core.List.{List, [], _∷_, _++_, map}
 use lib.ListN.{length}
+use Rattle.codec.specs.Choice.{pick}
 use Rattle.codec.specs.Number.{Bytes}
 use Rattle.codec.specs.Time.{timeOk}
 use Rattle.codec.specs.Ident.{identBytes}
 use Rattle.codec.specs.Item.{itemOk, loadLength}
 use Rattle.codec.specs.Layout.{IdentFits, layout}
 use Rattle.framer.specs.Meter.{takenMeter}
-use Rattle.framer.specs.Framer.{add, passed}
+use Rattle.framer.specs.Framer.{add, passed, failed}
 use Rattle.framer.specs.declared.offer.Offer.{Offer}
 use Rattle.framer.specs.declared.framer.Framer.{Framer}
 use Rattle.history.specs.Account.{Event}
@@ -25,6 +26,7 @@ abbrev pub stepW : Framer → Op → Framer
 stepW w (Rules.event ev) = add w (ev .time) (offerIn ev) (ev .payload)
 stepW w (Rules.deadline t) = passed w t
 stepW w Rules.take = record { meter = takenMeter (w .meter); bytes = w .bytes; queue = w .queue }
+stepW w Rules.fail = pick (w .meter .out) (failed w) w
 
 abbrev pub runW : Framer → List Op → Framer
 runW w [] = w
@@ -49,6 +51,7 @@ abbrev pub FitOp : Limits → Op → Type 0
 FitOp c (Rules.event ev) = Fit c ev
 FitOp c (Rules.deadline t) = Unit
 FitOp c Rules.take = Unit
+FitOp c Rules.fail = Unit
 
 -- the bytes of a frame of the ledger
 unfoldable pub laid : Frame → List ℕ

@@ -1,9 +1,9 @@
--- The events among the operations of deeds are the deeds' own: the deadlines and takes between them add none.
+-- The events among the operations of deeds are the deeds' own: the deadlines, takes and failed sends between them add none.
 use mathlib.Core.Path.{_≡_, refl, _∙_}
 use mathlib.Core.Bool.{Bool, true, false}
 use mathlib.Core.List.{List, [], _∷_, _++_, map, append-nil}
 use Rattle.codec.specs.Choice.{pick}
-use Rattle.history.specs.Meaning.{Meaning, starts, stops, updates, reports, ticks, takes, switches, drops, nothing, meaning}
+use Rattle.history.specs.Meaning.{Meaning, starts, stops, updates, reports, ticks, takes, fails, switches, drops, nothing, meaning}
 use Rattle.history.specs.Account.{Account, Event, eventsOf}
 use Rattle.history.specs.Ledger.{Op}
 use Rattle.history.specs.Ledger as Rules
@@ -15,6 +15,7 @@ eventsIn-append [] b = refl
 eventsIn-append (Rules.event ev ∷ a) b = rw (eventsIn-append a b)
 eventsIn-append (Rules.deadline t ∷ a) b = eventsIn-append a b
 eventsIn-append (Rules.take ∷ a) b = eventsIn-append a b
+eventsIn-append (Rules.fail ∷ a) b = eventsIn-append a b
 
 events-only : (evs : List Event) → eventsIn (map Rules.event evs) ≡ evs
 events-only [] = refl
@@ -27,6 +28,7 @@ none-besides (updates source byte) = refl
 none-besides (reports source b t ident carries payload) = refl
 none-besides (ticks t) = refl
 none-besides takes = refl
+none-besides fails = refl
 none-besides (switches size room deadline) = refl
 none-besides drops = refl
 none-besides nothing = refl

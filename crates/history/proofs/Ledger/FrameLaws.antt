@@ -149,6 +149,7 @@ fine-moves c s = record {
   begin = λ l h ev x e p. record { closed = p .closed; filling = blank-fair c (l .next) (ev .time) (p .next) (x .time); next = omega arith };
   enter = λ l h ev x r p. record { closed = p .closed; filling = enter-fair c ev l x r (p .filling); next = p .next };
   take = λ l h f fs e p. p;
+  fail = λ l h bs e p. p;
 }
 
 module _ (c : Limits) (ops : List Op) (s : c .size ≤ 1024) (x : All (FitOp c) ops) where

@@ -5,6 +5,7 @@ use mathlib.Core.Logic.{_⊎_, inl, inr}
 use mathlib.Core.Bool.{Bool, true, false, not, true≢false}
 use mathlib.Core.List.{List, [], _∷_, _++_, map, map-append, append-assoc, append-nil}
 use native.Mathlib.Omega.{arith}
+use native.Mathlib.Numerals.{add-one}
 use lib.ListN.{length, drop, length-append, length-drop}
 use lib.Seq.{drop-append-le}
 use lib.Dec.{leb}
@@ -14,12 +15,12 @@ use Rattle.codec.specs.Time.{ns}
 use Rattle.codec.specs.declared.time.Time.{Time}
 use Rattle.codec.proofs.BoolLaws.{and-l, and-r}
 use Rattle.history.specs.Account.{Event}
-use Rattle.history.specs.Ledger.{Limits, Line, Frame, Closed, Ledger, emptyLedger, Op, isEmpty, keptIn, discardedIn, waitingIn, lineFor, closesBefore, overdue, hasRoom, close, begin, enter, mirrored, passed, taken, stepL, runL, linesIn}
+use Rattle.history.specs.Ledger.{Limits, Line, Frame, Closed, Ledger, emptyLedger, Op, isEmpty, keptIn, discardedIn, waitingIn, lineFor, closesBefore, overdue, hasRoom, close, begin, enter, mirrored, passed, taken, isOut, failed, stepL, runL, linesIn}
 use Rattle.history.specs.Ledger as Rules
 use Rattle.history.specs.History.{Says, Closes, stays, closes}
 use Rattle.history.proofs.Ground.TestLaws.{and-yes, or3-yes}
 use Rattle.history.proofs.Ground.ListLaws.{empty-is, not-empty, all-unit, drop-next, kept-append, discarded-append, lines-append}
-use Rattle.history.proofs.Ledger.Moves.{eventsIn, begin-keeps, tookOne, left-open, Moves, run-move}
+use Rattle.history.proofs.Ledger.Moves.{eventsIn, begin-keeps, tookOne, failedOne, left-open, Moves, run-move}
 
 -- no more are taken than kept, and at most Q wait
 pub record Sound (c : Limits) (ks : List Closed) (n : ℕ) : Type 0 where
@@ -27,7 +28,7 @@ pub record Sound (c : Limits) (ks : List Closed) (n : ℕ) : Type 0 where
   pub room : length (drop n (keptIn ks)) ≤ c .room
 
 abbrev pub SoundL : Limits → Ledger → Type 0
-SoundL c l = Sound c (l .closed) (l .taken)
+SoundL c l = Sound c (l .closed) (length (l .sends))
 
 sound-waiting : (c : Limits) (l : Ledger) → SoundL c l → length (waitingIn l) ≤ c .room
 unfolding waitingIn
@@ -37,7 +38,7 @@ sound-waiting c l p = p .room
 pub close-waiting : (c : Limits) (l : Ledger) → SoundL c l → waitingIn (close c l) ≡ waitingIn l ++ pick (hasRoom c l) (l .filling ∷ []) []
 unfolding waitingIn close
 close-waiting c l p =
-    let h : l .taken ≤ length (keptIn (l .closed)) = p .taken in
+    let h : length (l .sends) ≤ length (keptIn (l .closed)) = p .taken in
     rw (kept-append, append-nil, drop-append-le)
 
 pub close-waits : (c : Limits) (l : Ledger) → SoundL c l → length (waitingIn (close c l)) ≡ length (waitingIn l) + bit (hasRoom c l)
@@ -70,12 +71,12 @@ close-sound c l p = record {
 -- rule 7: what waits once the oldest is taken
 pub took-waiting : (l : Ledger) (f : Frame) (fs : List Frame) → waitingIn l ≡ f ∷ fs → waitingIn (tookOne l) ≡ fs
 unfolding waitingIn
-took-waiting l f fs e = drop-next (l .taken) f fs (keptIn (l .closed)) e
+took-waiting l f fs e = rw (← add-one (length (l .sends))) (drop-next (length (l .sends)) f fs (keptIn (l .closed)) e)
 
 take-sound : (c : Limits) (f : Frame) (fs : List Frame) (l : Ledger) → waitingIn l ≡ f ∷ fs → SoundL c l → SoundL c (tookOne l)
 unfolding waitingIn
 take-sound c f fs l e p =
-    let n = length-drop (l .taken) (keptIn (l .closed)) in
+    let n = length-drop (length (l .sends)) (keptIn (l .closed)) in
     let m = ap length e in
     let d = took-waiting l f fs e in
     record { taken = omega arith; room = rw d (omega arith) }
@@ -87,6 +88,7 @@ sound-moves c = record {
   begin = λ l h ev x e p. p;
   enter = λ l h ev x r p. p;
   take = λ l h f fs e p. take-sound c f fs l e p;
+  fail = λ l h bs e p. rw e at p;
 }
 
 -- so it stays, whatever befalls the ledger
@@ -152,11 +154,16 @@ deadline-closes : (c : Limits) (l : Ledger) (t : Time) (b : Bool) → overdue c 
 deadline-closes c l t true e p = closing c l _ (Rules.deadline t) p (overdue-says c l t e) refl
 deadline-closes c l t false e p = stays refl (says-overdue c l t e)
 
+failed-closed : (l : Ledger) (b : Bool) → pick b (failedOne (drop 1 (l .sends)) l) l .closed ≡ l .closed
+failed-closed l true = refl
+failed-closed l false = refl
+
 closes-exactly : (c : Limits) (l : Ledger) (op : Op) → SoundL c l → Closes c l op (stepL c l op)
-unfolding mirrored passed taken
+unfolding mirrored passed taken failed
 closes-exactly c l (Rules.event ev) p = event-closes c l ev (closesBefore c l ev) refl p
 closes-exactly c l (Rules.deadline t) p = deadline-closes c l t (overdue c l t) refl p
 closes-exactly c l Rules.take p = stays refl (λ z. z)
+closes-exactly c l Rules.fail p = stays (failed-closed l (isOut (l .sends))) (λ z. z)
 
 pub closes-at : (c : Limits) (ops before after : List Op) (op : Op) → ops ≡ before ++ (op ∷ after)
     → Closes c (runL c emptyLedger before) op (stepL c (runL c emptyLedger before) op)
@@ -170,6 +177,7 @@ items-moves c = record {
   begin = λ l h ev x e p. rw e at p;
   enter = λ l h ev x r p. rw (← p) (simp (map-append, append-assoc));
   take = λ l h f fs e p. p;
+  fail = λ l h bs e p. p;
 }
 
 pub items-are : (c : Limits) (ops : List Op) → map (λ (x : Line). x .event) (linesIn (runL c emptyLedger ops)) ≡ eventsIn ops

@@ -1,18 +1,24 @@
--- The lost bit stands on the first line after a discarded frame and on no other.
-use Prim.Native.Nat.{ℕ, _+_, _<_}
-use mathlib.Core.Path.{_≡_, refl, sym, _∙_}
-use mathlib.Core.Bool.{Bool, true, false, not, _&&_}
-use mathlib.Core.List.{List, [], _∷_, _++_}
+-- The lost bit stands exactly on the first item made after a discard or a failed send, and the notes speak of the ledger's own lines
+-- and losses.
+use Prim.Native.Nat.{ℕ, suc, _+_, _<_}
+use mathlib.Core.Path.{_≡_, refl, sym, _∙_, ap, subst}
+use mathlib.Core.Bool.{Bool, true, false, not, _||_}
+use mathlib.Core.List.{List, [], _∷_, _++_, append-assoc, append-nil}
 use native.Mathlib.Omega.{arith}
+use lib.ListN.{length}
 use borrow.Author.Tests.{le-leb, lt-leb}
-use Rattle.codec.specs.Choice.{pick}
+use Rattle.codec.specs.Choice.{pick, bit}
 use Rattle.codec.specs.declared.item.State.the-variants as State
+use Rattle.codec.proofs.BoolLaws.{or-false, or-true}
 use Rattle.history.specs.Account.{Event}
-use Rattle.history.specs.Ledger.{Limits, Line, Closed, Ledger, emptyLedger, Op, stateIn, itemIn, isEmpty, lineFor, close, enter, runL}
-use Rattle.history.specs.History.{All, lostBit, Marked, Marks}
+use Rattle.history.specs.Ledger.{Limits, Line, Note, Ledger, emptyLedger, Op, stateIn, itemIn, discardedIn, failuresIn, hasRoom, lineFor, close, enter, runL, linesIn, madeIn, isDiscard, isFailure, tally}
+use Rattle.history.specs.Ledger as Rules
+use Rattle.history.specs.History.{All}
+use Rattle.history.specs.Loss.{lostBit, Marks, Noted}
 use Rattle.history.proofs.Ground.Machine.{Fit, FitOp}
-use Rattle.history.proofs.Ground.ListLaws.{all-append, snoc-filled}
-use Rattle.history.proofs.Ledger.Moves.{fit-events, Moves, run-move}
+use Rattle.history.proofs.Ground.ListLaws.{all-unit, lines-append}
+use Rattle.history.proofs.Ledger.Moves.{eventsIn, fit-events, failedOne, Moves, run-move}
+use Rattle.history.proofs.Ledger.LedgerLaws.{close-discards}
 
 -- bit 7 is the line's own flag, as the state is below 128
 lost-shown : (x : Line) → x .event .state < 128 → lostBit (itemIn x .state) ≡ x .lost
@@ -24,61 +30,106 @@ lost-shown x h = go (x .lost) (x .event .due) (x .event .state) h
     go false true n k = lt-leb 128 n k
     go false false n k = refl
 
--- was the last of them discarded? b where there is none
-abbrev lastLost : Bool → List Closed → Bool
-lastLost b [] = b
-lastLost b (k ∷ ks) = lastLost (not (k .kept)) ks
+-- one note more, which finds a loss pending or not
+note-marks : (b : Bool) (ns : List Note) (n : Note) (p q : Bool) → Marks b ns p → Marks p (n ∷ []) q → Marks b (ns ++ (n ∷ [])) q
+note-marks b [] n p q e m = subst (λ (x : Bool). Marks x (n ∷ []) q) (sym e) m
+note-marks b (Rules.made x ∷ ns) n p q e m = (e .0, note-marks false ns n p q (e .1) m)
+note-marks b (Rules.queued ∷ ns) n p q e m = note-marks b ns n p q e m
+note-marks b (Rules.discarded ∷ ns) n p q e m = note-marks true ns n p q e m
+note-marks b (Rules.unsent ∷ ns) n p q e m = note-marks true ns n p q e m
 
-last-snoc : (b : Bool) (ks : List Closed) (k : Closed) → lastLost b (ks ++ (k ∷ [])) ≡ not (k .kept)
-last-snoc b [] k = refl
-last-snoc b (j ∷ ks) k = last-snoc (not (j .kept)) ks k
+abbrev MarksL : Ledger → Type 0
+MarksL l = Marks false (l .notes) (l .lost)
 
--- the frame being filled closes
-close-marks : (b : Bool) (ks : List Closed) (k : Closed) → Marks b ks (k .frame .lines) → Marks b (ks ++ (k ∷ [])) []
-close-marks b [] k p = (p, tt)
-close-marks b (j ∷ ks) k p = (p .0, close-marks (not (j .kept)) ks k (p .1))
-
--- it gets one more line
-enter-marked : (b : Bool) (xs : List Line) (x : Line) → lostBit (itemIn x .state) ≡ isEmpty xs && b → Marked b xs → Marked b (xs ++ (x ∷ []))
-enter-marked b [] x e p = (e, tt)
-enter-marked b (y ∷ xs) x e p = (p .0, all-append (λ (z : Line). lostBit (itemIn z .state) ≡ false) xs (x ∷ []) (p .1) (e, tt))
-
-enter-marks : (b : Bool) (ks : List Closed) (xs : List Line) (x : Line) → lostBit (itemIn x .state) ≡ isEmpty xs && lastLost b ks → Marks b ks xs
-    → Marks b ks (xs ++ (x ∷ []))
-enter-marks b [] xs x e p = enter-marked b xs x e p
-enter-marks b (j ∷ ks) xs x e p = (p .0, enter-marks (not (j .kept)) ks xs x e (p .1))
-
--- a loss is pending where the last frame was discarded and the one being filled is empty
-record Pending (ks : List Closed) (xs : List Line) (lost : Bool) : Type 0 where
-  marks : Marks false ks xs
-  pending : lost ≡ isEmpty xs && lastLost false ks
-
-abbrev PendingL : Ledger → Type 0
-PendingL l = Pending (l .closed) (l .filling .lines) (l .lost)
-
-close-pending : (c : Limits) (l : Ledger) → isEmpty (l .filling .lines) ≡ false → PendingL l → PendingL (close c l)
+close-marks : (c : Limits) (l : Ledger) → MarksL l → MarksL (close c l)
 unfolding close
-close-pending c l e p =
-    let z : l .lost ≡ false = p .pending ∙ rw e in
-    record { marks = close-marks false (l .closed) _ (p .marks); pending = rw z (sym (last-snoc false (l .closed) _)) }
+close-marks c l p = note-marks false (l .notes) _ (l .lost) _ p (go (hasRoom c l))
+  where
+    go : (b : Bool) → Marks (l .lost) (pick b Rules.queued Rules.discarded ∷ []) (l .lost || not b)
+    go true = sym (or-false (l .lost))
+    go false = sym (or-true (l .lost))
 
-enter-pending : (ev : Event) (l : Ledger) → ev .state < 128 → PendingL l → PendingL (enter ev l)
+enter-marks : (ev : Event) (l : Ledger) → ev .state < 128 → MarksL l → MarksL (enter ev l)
 unfolding enter lineFor
-enter-pending ev l s p =
-    record {
-      marks = enter-marks false (l .closed) (l .filling .lines) (lineFor l ev) (lost-shown (lineFor l ev) s ∙ p .pending) (p .marks);
-      pending = rw (snoc-filled (l .filling .lines) (lineFor l ev));
-    }
+enter-marks ev l s p = note-marks false (l .notes) (Rules.made (lineFor l ev)) (l .lost) false p (lost-shown (lineFor l ev) s, refl)
 
-mark-moves : (c : Limits) → Moves c (Fit c) (λ l h. PendingL l)
+mark-moves : (c : Limits) → Moves c (Fit c) (λ l h. MarksL l)
 mark-moves c = record {
-  close = λ l h e p. close-pending c l e p;
-  begin = λ l h ev x e p. record { marks = rw e at (p .marks); pending = rw e at (p .pending) };
-  enter = λ l h ev x r p. enter-pending ev l (x .state) p;
+  close = λ l h e p. close-marks c l p;
+  begin = λ l h ev x e p. p;
+  enter = λ l h ev x r p. enter-marks ev l (x .state) p;
   take = λ l h f fs e p. p;
+  fail = λ l h bs e p. note-marks false (l .notes) Rules.unsent (l .lost) true p refl;
 }
 
-pub marks-are : (c : Limits) (ops : List Op) → All (FitOp c) ops → Marks false (runL c emptyLedger ops .closed) (runL c emptyLedger ops .filling .lines)
+pub marks-are : (c : Limits) (ops : List Op) → All (FitOp c) ops → MarksL (runL c emptyLedger ops)
 unfolding emptyLedger
-marks-are c ops x =
-    run-move c (Fit c) (λ l h. PendingL l) (mark-moves c) emptyLedger [] ops (fit-events c ops x) (record { marks = tt; pending = refl }) .marks
+marks-are c ops x = run-move c (Fit c) (λ l h. MarksL l) (mark-moves c) emptyLedger [] ops (fit-events c ops x) refl
+
+-- what one note more says
+made-more : (ns ms : List Note) → madeIn (ns ++ ms) ≡ madeIn ns ++ madeIn ms
+made-more [] ms = refl
+made-more (Rules.made x ∷ ns) ms = rw (made-more ns ms)
+made-more (Rules.queued ∷ ns) ms = made-more ns ms
+made-more (Rules.discarded ∷ ns) ms = made-more ns ms
+made-more (Rules.unsent ∷ ns) ms = made-more ns ms
+
+tally-more : (f : Note → ℕ) (ns : List Note) (n : Note) → tally f (ns ++ (n ∷ [])) ≡ tally f ns + f n
+tally-more f [] n = omega arith
+tally-more f (m ∷ ns) n = omega (arith, tally-more f ns n)
+
+close-lines : (c : Limits) (l : Ledger) → linesIn (close c l) ≡ linesIn l
+unfolding close linesIn
+close-lines c l = simp (lines-append, append-nil)
+
+close-noted : (c : Limits) (l : Ledger) → Noted l → Noted (close c l)
+unfolding close
+close-noted c l p = record {
+  lines = made-more (l .notes) _ ∙ go-lines (hasRoom c l) ∙ p .lines ∙ sym (close-lines c l);
+  discards = tally-more isDiscard (l .notes) _ ∙ rw (p .discards, go-discards (hasRoom c l)) (sym (close-discards c l));
+  failures = tally-more isFailure (l .notes) _ ∙ rw (p .failures, go-failures (hasRoom c l)) (omega arith);
+}
+  where
+    go-lines : (b : Bool) → madeIn (l .notes) ++ madeIn (pick b Rules.queued Rules.discarded ∷ []) ≡ madeIn (l .notes)
+    go-lines true = append-nil (madeIn (l .notes))
+    go-lines false = append-nil (madeIn (l .notes))
+
+    go-discards : (b : Bool) → isDiscard (pick b Rules.queued Rules.discarded) ≡ bit (not b)
+    go-discards true = refl
+    go-discards false = refl
+
+    go-failures : (b : Bool) → isFailure (pick b Rules.queued Rules.discarded) ≡ 0
+    go-failures true = refl
+    go-failures false = refl
+
+enter-noted : (ev : Event) (l : Ledger) → Noted l → Noted (enter ev l)
+unfolding enter linesIn
+enter-noted ev l p = record {
+  lines = made-more (l .notes) _ ∙ rw (p .lines) (rw append-assoc);
+  discards = tally-more isDiscard (l .notes) _ ∙ omega (arith, p .discards);
+  failures = tally-more isFailure (l .notes) _ ∙ omega (arith, p .failures);
+}
+
+fail-noted : (l : Ledger) (bs : List Bool) → l .sends ≡ false ∷ bs → Noted l → Noted (failedOne bs l)
+unfolding linesIn
+fail-noted l bs e p = record {
+  lines = made-more (l .notes) _ ∙ append-nil (madeIn (l .notes)) ∙ p .lines;
+  discards = tally-more isDiscard (l .notes) _ ∙ omega (arith, p .discards);
+  failures = tally-more isFailure (l .notes) _ ∙ omega (arith, p .failures, ap failuresIn e);
+}
+
+noted-moves : (c : Limits) → Moves c (λ ev. Unit {0}) (λ l h. Noted l)
+unfolding linesIn
+noted-moves c = record {
+  close = λ l h e p. close-noted c l p;
+  begin = λ l h ev x e p. record { lines = rw e at (p .lines); discards = p .discards; failures = p .failures };
+  enter = λ l h ev x r p. enter-noted ev l p;
+  take = λ l h f fs e p. record { lines = p .lines; discards = p .discards; failures = p .failures };
+  fail = λ l h bs e p. fail-noted l bs e p;
+}
+
+pub noted-are : (c : Limits) (ops : List Op) → Noted (runL c emptyLedger ops)
+unfolding emptyLedger linesIn
+noted-are c ops =
+    run-move c (λ ev. Unit {0}) (λ l h. Noted l) (noted-moves c) emptyLedger [] ops (all-unit (eventsIn ops))
+    (record { lines = refl; discards = refl; failures = refl })

@@ -1,16 +1,18 @@
 -- The frames taken are the first of those that were kept, in order.
+use Prim.Native.Nat.{ℕ, suc}
 use mathlib.Core.Path.{_≡_, refl, sym, _∙_}
 use mathlib.Core.Bool.{Bool, true, false}
 use mathlib.Core.List.{List, [], _∷_, _++_, map, append-assoc, append-nil}
-use lib.ListN.{take}
+use native.Mathlib.Numerals.{add-one}
+use lib.ListN.{length, take, drop}
 use lib.Seq.{take-append-le, take-add}
 use Rattle.codec.specs.Choice.{pick}
 use Rattle.codec.specs.declared.time.Time.{Time}
 use Rattle.history.specs.Account.{Event}
-use Rattle.history.specs.Ledger.{Limits, Frame, Ledger, Op, keptIn, takenIn, waitingIn, hasRoom, close, begin, enter, mirrored, closesBefore, overdue, taken, stepL, runL}
+use Rattle.history.specs.Ledger.{Limits, Frame, Ledger, Op, keptIn, takenIn, waitingIn, hasRoom, close, begin, enter, mirrored, closesBefore, overdue, taken, isOut, failed, stepL, runL}
 use Rattle.history.specs.Ledger as Rules
 use Rattle.history.proofs.Ground.ListLaws.{kept-append}
-use Rattle.history.proofs.Ledger.Moves.{begin-keeps, taken-none, taken-one}
+use Rattle.history.proofs.Ledger.Moves.{begin-keeps, taken-none, taken-one, Out, none-out, one-out, out-or-not, failed-none, failed-one}
 use Rattle.history.proofs.Ledger.LedgerLaws.{SoundL, step-sound}
 
 -- what an operation takes
@@ -18,6 +20,7 @@ abbrev got : Ledger → Op → List Frame
 got l (Rules.event ev) = []
 got l (Rules.deadline t) = []
 got l Rules.take = take 1 (waitingIn l)
+got l Rules.fail = []
 
 abbrev pub gotOn : Limits → Ledger → List Op → List Frame
 gotOn c l [] = []
@@ -41,7 +44,7 @@ unfolding takenIn close
 took-close c l false s = refl
 took-close c l true s =
     rw (kept-append (l .closed) (record { frame = l .filling; kept = hasRoom c l } ∷ []))
-    (take-append-le (l .taken) (keptIn (l .closed)) (keptIn (record { frame = l .filling; kept = hasRoom c l } ∷ [])) (s .taken))
+    (take-append-le (length (l .sends)) (keptIn (l .closed)) (keptIn (record { frame = l .filling; kept = hasRoom c l } ∷ [])) (s .taken))
 
 took-begin : (t : Time) (l : Ledger) → takenIn (begin t l) ≡ takenIn l
 unfolding takenIn
@@ -51,10 +54,18 @@ took-enter : (ev : Event) (l : Ledger) → takenIn (enter ev l) ≡ takenIn l
 unfolding takenIn enter
 took-enter ev l = refl
 
+took-next : {A : Type 0} (n : ℕ) (xs : List A) → take (suc n) xs ≡ take n xs ++ take 1 (drop n xs)
+took-next n xs = rw (← add-one n) (take-add n 1 xs)
+
 took-take : (l : Ledger) (fs : List Frame) → waitingIn l ≡ fs → takenIn (taken l) ≡ takenIn l ++ take 1 (waitingIn l)
 unfolding takenIn waitingIn
-took-take l [] e = rw (taken-none l e) (rw e (sym (append-nil (take (l .taken) (keptIn (l .closed))))))
-took-take l (f ∷ fs) e = rw (taken-one l f fs e) (take-add (l .taken) 1 (keptIn (l .closed)))
+took-take l [] e = rw (taken-none l e) (rw e (sym (append-nil (take (length (l .sends)) (keptIn (l .closed))))))
+took-take l (f ∷ fs) e = rw (taken-one l f fs e) (took-next (length (l .sends)) (keptIn (l .closed)))
+
+took-fail : (l : Ledger) → Out (l .sends) → takenIn (failed l) ≡ takenIn l
+unfolding takenIn
+took-fail l (none-out e) = rw (failed-none l e)
+took-fail l (one-out bs e) = rw (failed-one l bs e, e)
 
 step-took : (c : Limits) (l : Ledger) (op : Op) → SoundL c l → takenIn (stepL c l op) ≡ takenIn l ++ got l op
 unfolding mirrored Rules.passed
@@ -63,6 +74,7 @@ step-took c l (Rules.event ev) s =
     took-enter ev (begin (ev .time) m) ∙ took-begin (ev .time) m ∙ took-close c l (closesBefore c l ev) s ∙ sym (append-nil (takenIn l))
 step-took c l (Rules.deadline t) s = took-close c l (overdue c l t) s ∙ sym (append-nil (takenIn l))
 step-took c l Rules.take s = took-take l (waitingIn l) refl
+step-took c l Rules.fail s = took-fail l (out-or-not (l .sends)) ∙ sym (append-nil (takenIn l))
 
 pub run-took : (c : Limits) (l : Ledger) (ops : List Op) → SoundL c l → takenIn (runL c l ops) ≡ takenIn l ++ gotOn c l ops
 run-took c l [] s = sym (append-nil (takenIn l))

@@ -19,7 +19,7 @@ use Rattle.mirror.specs.Call.{Call, stepOf, runOf}
 use Rattle.mirror.specs.Call as Call
 use Rattle.mirror.specs.declared.engine.Engine.{Engine}
 use Rattle.mirror.proofs.Refused.{refused-keeps}
-use Rattle.history.specs.Meaning.{Meaning, starts, stops, updates, reports, ticks, takes, switches, drops, nothing, meaning}
+use Rattle.history.specs.Meaning.{Meaning, starts, stops, updates, reports, ticks, takes, fails, switches, drops, nothing, meaning}
 use Rattle.history.specs.Account.{Account, accountsFor}
 use Rattle.history.specs.Ledger.{Limits, Ledger, Op, emptyLedger, runL}
 use Rattle.history.specs.Deed.{deedsOf, done, opsOn}
@@ -95,7 +95,9 @@ resets-begun c book e (Call.slots source low high lowCycle highCycle repetition)
 resets-begun c book e (Call.remove source number) a r z = absurd r
 resets-begun c book e (Call.tick t) a r z = absurd r
 resets-begun c book e (Call.take out) a r z = absurd r
+resets-begun c book e Call.failed a r z = absurd r
 resets-begun c book e Call.discards a r z = absurd r
+resets-begun c book e Call.failures a r z = absurd r
 
 -- a call that resets nothing leaves the limits
 plain-limits : (c : Limits) (m : Meaning) → Allowed m → limitsOf c m ≡ c
@@ -105,6 +107,7 @@ plain-limits c (updates source byte) p = refl
 plain-limits c (reports source b t ident carries payload) p = refl
 plain-limits c (ticks t) p = refl
 plain-limits c takes p = refl
+plain-limits c fails p = refl
 plain-limits c (switches size room deadline) p = absurd p
 plain-limits c drops p = absurd p
 plain-limits c nothing p = refl

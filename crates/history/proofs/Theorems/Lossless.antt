@@ -1,5 +1,5 @@
--- Two readings of `History`: all frames in one row; and where nothing was discarded and nothing waits or is being filled, the frames
--- taken hold exactly the accepted reports and the state items called for.
+-- Readings of `History`: all frames in one row; where nothing was discarded and nothing waits or is being filled, the frames taken
+-- hold every line; and if no send failed either, they hold exactly the accepted reports and the state items called for.
 use Prim.Native.Nat.{ℕ, _+_}
 use mathlib.Core.Path.{_≡_, refl, sym, _∙_, ap}
 use mathlib.Core.Bool.{Bool, true, false, true≢false, false≢true}
@@ -11,12 +11,14 @@ use borrow.Author.Tests.{le-leb}
 use Rattle.codec.specs.Choice.{pick}
 use Rattle.codec.specs.declared.item.Item.{Item}
 use Rattle.reader.specs.Listing.{Yield, stepping}
-use Rattle.mirror.specs.Engine.{discardsOf}
+use Rattle.mirror.specs.Engine.{discardsOf, failuresOf}
 use Rattle.mirror.specs.declared.engine.Engine.{Engine}
 use Rattle.history.specs.Account.{Account}
-use Rattle.history.specs.Ledger.{Limits, Line, Frame, Closed, Ledger, stateIn, itemIn, isEmpty, keptIn, discardedIn, discardCount, takenIn, waitingIn, fillingIn, linesClosed, linesIn}
+use Rattle.history.specs.Ledger.{Limits, Line, Frame, Closed, Ledger, stateIn, itemIn, Note, isEmpty, keptIn, discardedIn, discardCount, takenIn, waitingIn, failureCount, fillingIn, linesClosed, linesIn, madeIn, isDiscard, isFailure, tally}
+use Rattle.history.specs.Ledger as Rules
 use Rattle.history.specs.Deed.{Deed, eventsOn}
-use Rattle.history.specs.History.{All, Both, Shows, Reads, lostBit, Marked, Marks, framesTaken, framesWaiting, framesFilling, History, yieldsIn, ShowsEvent}
+use Rattle.history.specs.Loss.{lostBit, Marks}
+use Rattle.history.specs.History.{All, Both, Shows, Reads, framesTaken, framesWaiting, framesFilling, History, yieldsIn, ShowsEvent}
 use Rattle.history.proofs.Ground.ListLaws.{empty-is, length-none, all-append, both-append, both-none}
 
 -- the lines of frames, one frame after the other
@@ -43,16 +45,12 @@ kept-lines (k ∷ ks) e = let q = keeps (k .kept) (k .frame) (discardedIn ks) e 
 abbrev Unlost : Line → Type 0
 Unlost x = lostBit (itemIn x .state) ≡ false
 
-unlost-first : (xs : List Line) → Marked false xs → All Unlost xs
-unlost-first [] m = tt
-unlost-first (x ∷ xs) m = m
-
-unlost : (ks : List Closed) (xs : List Line) → discardedIn ks ≡ [] → Marks false ks xs → All Unlost (linesClosed ks)
-unlost [] xs e m = tt
-unlost (k ∷ ks) xs e m =
-    let q = keeps (k .kept) (k .frame) (discardedIn ks) e in
-    let n : Marks false ks xs = rw (q .0) at m .1 in
-    all-append Unlost (k .frame .lines) (linesClosed ks) (unlost-first (k .frame .lines) (m .0)) (unlost ks xs (q .1) n)
+unlost : (ns : List Note) (pending : Bool) → tally isDiscard ns ≡ 0 → tally isFailure ns ≡ 0 → Marks false ns pending → All Unlost (madeIn ns)
+unlost [] pending d f m = tt
+unlost (Rules.made x ∷ ns) pending d f m = (m .0, unlost ns pending (omega arith) (omega arith) (m .1))
+unlost (Rules.queued ∷ ns) pending d f m = unlost ns pending (omega arith) (omega arith) m
+unlost (Rules.discarded ∷ ns) pending d f m = let z : ⊥ = omega arith in absurd z
+unlost (Rules.unsent ∷ ns) pending d f m = let z : ⊥ = omega arith in absurd z
 
 -- a line that shows no loss is its event, with the offset that is read
 not-lost : (x : Line) → Unlost x → x .lost ≡ false
@@ -92,7 +90,7 @@ module _ (c : Limits) (book : List Account) (ds : List Deed) (l : Ledger) (u : E
   pub in-order : Both Reads (framesTaken ds ++ framesWaiting u ++ framesFilling u) (keptIn (l .closed) ++ fillingIn l)
   unfolding takenIn waitingIn
   in-order =
-      rw (← take-append-drop (l .taken) (keptIn (l .closed)))
+      rw (← take-append-drop (length (l .sends)) (keptIn (l .closed)))
       (both-append Reads (framesTaken ds ++ framesWaiting u) (framesFilling u) (takenIn l ++ waitingIn l) (fillingIn l)
       (both-append Reads (framesTaken ds) (framesWaiting u) (takenIn l) (waitingIn l) (h .taken) (h .waiting)) (h .filling))
 
@@ -111,14 +109,21 @@ module _ (c : Limits) (book : List Account) (ds : List Deed) (l : Ledger) (u : E
     unfolding takenIn waitingIn
     all-taken =
         let w : waitingIn l ≡ [] = both-none Reads (framesWaiting u) (waitingIn l) drained (h .waiting) in
-        sym (append-nil (takenIn l)) ∙ ap (λ (fs : List Frame). takenIn l ++ fs) (sym w) ∙ take-append-drop (l .taken) (keptIn (l .closed))
+        sym (append-nil (takenIn l)) ∙ ap (λ (fs : List Frame). takenIn l ++ fs) (sym w) ∙ take-append-drop (length (l .sends)) (keptIn (l .closed))
 
     lines-taken : linesOf (takenIn l) ≡ linesIn l
     unfolding linesIn
     lines-taken = rw (all-taken, kept-lines (l .closed) none-discarded, none-filling) (sym (append-nil (linesClosed (l .closed))))
 
-    pub lossless : Both ShowsEvent (yieldsIn (framesTaken ds)) (eventsOn book ds)
-    lossless =
-        let clear : All Unlost (linesOf (takenIn l))
-        = rw (all-taken, kept-lines (l .closed) none-discarded) (unlost (l .closed) (l .filling .lines) none-discarded (h .marks)) in
-        rw (← h .items, ← lines-taken) (shows-events (yieldsIn (framesTaken ds)) (linesOf (takenIn l)) clear (yields-lines (framesTaken ds) (takenIn l) (h .taken)))
+    -- the frames taken hold every line that was made, whether or not a send failed
+    pub in-full : Both Shows (yieldsIn (framesTaken ds)) (linesIn l)
+    in-full = rw (← lines-taken) (yields-lines (framesTaken ds) (takenIn l) (h .taken))
+
+    -- and if none failed, each shows its event alone
+    pub lossless : failuresOf u .count ≡ 0 → Both ShowsEvent (yieldsIn (framesTaken ds)) (eventsOn book ds)
+    unfolding failureCount
+    lossless unfailed =
+        let f : failureCount l ≡ 0 = sym (h .failures) ∙ unfailed in
+        let clear : All Unlost (madeIn (l .notes))
+        = unlost (l .notes) (l .lost) (h .noted .discards ∙ ap length none-discarded) (h .noted .failures ∙ omega arith) (h .marks) in
+        rw (← h .items) (shows-events (yieldsIn (framesTaken ds)) (linesIn l) (rw (h .noted .lines) at clear) in-full)

@@ -16,7 +16,7 @@ use Rattle.mirror.specs.declared.engine.Engine.{Engine}
 use Rattle.mirror.proofs.MirrorLaws.{few}
 use Rattle.mirror.proofs.Kept.{sound-by}
 use Rattle.framer.proofs.KeptLaws.{kept-empty}
-use Rattle.history.specs.Meaning.{Meaning, starts, stops, updates, reports, ticks, takes, switches, drops, nothing, Bound}
+use Rattle.history.specs.Meaning.{Meaning, starts, stops, updates, reports, ticks, takes, fails, switches, drops, nothing, Bound}
 use Rattle.history.specs.Account.{Account, freshAccount, kindNamed, accountsFor, accountAt, changed, startedAccount, stoppedAccount, updatedAccount, reportedAccount, tickedAccount, accountsOf}
 use Rattle.history.specs.Ledger.{Limits}
 use Rattle.history.specs.History.{All}
@@ -55,6 +55,7 @@ book-stays book (updates source byte) = update-stays book source byte
 book-stays book (reports source b t ident carries payload) = report-stays book source b
 book-stays book (ticks t) = each-stays tickedAccount (λ a. refl) book
 book-stays book takes = refl
+book-stays book fails = refl
 book-stays book (switches size room deadline) = refl
 book-stays book drops = refl
 book-stays book nothing = refl
