@@ -261,7 +261,23 @@ linesIn l = linesClosed (l .closed) ++ l .filling .lines
 unfoldable pub fillingIn : Ledger → List Frame
 fillingIn l = pick (isEmpty (l .filling .lines)) [] (l .filling ∷ [])
 
--- what the notes say: every line made, and how many frames were discarded and called failed
+-- what the notes say of frames, where xs was made since the last closing: the lines of each that closed and whether it was kept, and
+-- the lines made since then
+abbrev pub closedBy : List Line → List Note → List (List Line × Bool)
+closedBy xs [] = []
+closedBy xs (made x ∷ ns) = closedBy (xs ++ (x ∷ [])) ns
+closedBy xs (queued ∷ ns) = (xs, true) ∷ closedBy [] ns
+closedBy xs (discarded ∷ ns) = (xs, false) ∷ closedBy [] ns
+closedBy xs (unsent ∷ ns) = closedBy xs ns
+
+abbrev pub fillingBy : List Line → List Note → List Line
+fillingBy xs [] = xs
+fillingBy xs (made x ∷ ns) = fillingBy (xs ++ (x ∷ [])) ns
+fillingBy xs (queued ∷ ns) = fillingBy [] ns
+fillingBy xs (discarded ∷ ns) = fillingBy [] ns
+fillingBy xs (unsent ∷ ns) = fillingBy xs ns
+
+-- and over all frames: every line made, and how many frames were discarded and called failed
 abbrev pub madeIn : List Note → List Line
 madeIn [] = []
 madeIn (made x ∷ ns) = x ∷ madeIn ns

@@ -3,14 +3,14 @@
 use Prim.Native.Nat.{ℕ, _+_}
 use mathlib.Core.Path.{_≡_}
 use mathlib.Core.Bool.{Bool, true, false}
-use mathlib.Core.List.{List, [], _∷_}
+use mathlib.Core.List.{List, [], _∷_, map}
 use lib.ListN.{length}
 use lib.Dec.{leb}
 use Rattle.codec.specs.Choice.{pick}
 use Rattle.codec.specs.declared.item.State.{State}
 use Rattle.codec.specs.declared.item.State.the-variants as State
 use Rattle.history.specs.Meaning.{Meaning, starts, stops, updates, reports, ticks, takes, fails, switches, drops, nothing, meaning}
-use Rattle.history.specs.Ledger.{Note, made, queued, discarded, unsent, Ledger, itemIn, discardedIn, failuresIn, linesIn, madeIn, isDiscard, isFailure, tally}
+use Rattle.history.specs.Ledger.{Closed, Note, made, queued, discarded, unsent, Ledger, itemIn, discardedIn, failuresIn, linesIn, closedBy, fillingBy, madeIn, isDiscard, isFailure, tally}
 use Rattle.history.specs.Deed.{Deed, done}
 
 -- bit 7 of a shown state
@@ -27,8 +27,10 @@ Marks b (queued ∷ ns) pending = Marks b ns pending
 Marks b (discarded ∷ ns) pending = Marks true ns pending
 Marks b (unsent ∷ ns) pending = Marks true ns pending
 
--- the notes speak of the ledger's own lines and losses
+-- the notes speak of the ledger's own frames, lines and losses
 pub record Noted (l : Ledger) : Type 0 where
+  pub closed : closedBy [] (l .notes) ≡ map (λ (k : Closed). (k .frame .lines, k .kept)) (l .closed)
+  pub filling : fillingBy [] (l .notes) ≡ l .filling .lines
   pub lines : madeIn (l .notes) ≡ linesIn l
   pub discards : tally isDiscard (l .notes) ≡ length (discardedIn (l .closed))
   pub failures : tally isFailure (l .notes) ≡ failuresIn (l .sends)

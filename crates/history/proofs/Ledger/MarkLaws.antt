@@ -3,7 +3,7 @@
 use Prim.Native.Nat.{ℕ, suc, _+_, _<_}
 use mathlib.Core.Path.{_≡_, refl, sym, _∙_, ap, subst}
 use mathlib.Core.Bool.{Bool, true, false, not, _||_}
-use mathlib.Core.List.{List, [], _∷_, _++_, append-assoc, append-nil}
+use mathlib.Core.List.{List, [], _∷_, _++_, map-append, append-assoc, append-nil}
 use native.Mathlib.Omega.{arith}
 use lib.ListN.{length}
 use borrow.Author.Tests.{le-leb, lt-leb}
@@ -11,7 +11,7 @@ use Rattle.codec.specs.Choice.{pick, bit}
 use Rattle.codec.specs.declared.item.State.the-variants as State
 use Rattle.codec.proofs.BoolLaws.{or-false, or-true}
 use Rattle.history.specs.Account.{Event}
-use Rattle.history.specs.Ledger.{Limits, Line, Note, Ledger, emptyLedger, Op, stateIn, itemIn, discardedIn, failuresIn, hasRoom, lineFor, close, enter, runL, linesIn, madeIn, isDiscard, isFailure, tally}
+use Rattle.history.specs.Ledger.{Limits, Line, Closed, Note, Ledger, emptyLedger, Op, stateIn, itemIn, discardedIn, failuresIn, hasRoom, lineFor, close, enter, runL, linesIn, closedBy, fillingBy, madeIn, isDiscard, isFailure, tally}
 use Rattle.history.specs.Ledger as Rules
 use Rattle.history.specs.History.{All}
 use Rattle.history.specs.Loss.{lostBit, Marks, Noted}
@@ -66,7 +66,30 @@ pub marks-are : (c : Limits) (ops : List Op) → All (FitOp c) ops → MarksL (r
 unfolding emptyLedger
 marks-are c ops x = run-move c (Fit c) (λ l h. MarksL l) (mark-moves c) emptyLedger [] ops (fit-events c ops x) refl
 
--- what one note more says
+-- the frames that notes and later notes say
+closed-more : (xs : List Line) (ns ms : List Note) → closedBy xs (ns ++ ms) ≡ closedBy xs ns ++ closedBy (fillingBy xs ns) ms
+closed-more xs [] ms = refl
+closed-more xs (Rules.made x ∷ ns) ms = closed-more (xs ++ (x ∷ [])) ns ms
+closed-more xs (Rules.queued ∷ ns) ms = rw (closed-more [] ns ms)
+closed-more xs (Rules.discarded ∷ ns) ms = rw (closed-more [] ns ms)
+closed-more xs (Rules.unsent ∷ ns) ms = closed-more xs ns ms
+
+filling-more : (xs : List Line) (ns ms : List Note) → fillingBy xs (ns ++ ms) ≡ fillingBy (fillingBy xs ns) ms
+filling-more xs [] ms = refl
+filling-more xs (Rules.made x ∷ ns) ms = filling-more (xs ++ (x ∷ [])) ns ms
+filling-more xs (Rules.queued ∷ ns) ms = filling-more [] ns ms
+filling-more xs (Rules.discarded ∷ ns) ms = filling-more [] ns ms
+filling-more xs (Rules.unsent ∷ ns) ms = filling-more xs ns ms
+
+closed-one : (xs : List Line) (b : Bool) → closedBy xs (pick b Rules.queued Rules.discarded ∷ []) ≡ (xs, b) ∷ []
+closed-one xs true = refl
+closed-one xs false = refl
+
+filling-none : (xs : List Line) (b : Bool) → fillingBy xs (pick b Rules.queued Rules.discarded ∷ []) ≡ []
+filling-none xs true = refl
+filling-none xs false = refl
+
+-- what one note more says over all frames
 made-more : (ns ms : List Note) → madeIn (ns ++ ms) ≡ madeIn ns ++ madeIn ms
 made-more [] ms = refl
 made-more (Rules.made x ∷ ns) ms = rw (made-more ns ms)
@@ -82,9 +105,14 @@ close-lines : (c : Limits) (l : Ledger) → linesIn (close c l) ≡ linesIn l
 unfolding close linesIn
 close-lines c l = simp (lines-append, append-nil)
 
+abbrev outline : Closed → List Line × Bool
+outline k = (k .frame .lines, k .kept)
+
 close-noted : (c : Limits) (l : Ledger) → Noted l → Noted (close c l)
 unfolding close
 close-noted c l p = record {
+  closed = closed-more [] (l .notes) _ ∙ rw (p .closed, p .filling, closed-one (l .filling .lines) (hasRoom c l)) (sym (map-append outline (l .closed) _));
+  filling = filling-more [] (l .notes) _ ∙ filling-none _ (hasRoom c l);
   lines = made-more (l .notes) _ ∙ go-lines (hasRoom c l) ∙ p .lines ∙ sym (close-lines c l);
   discards = tally-more isDiscard (l .notes) _ ∙ rw (p .discards, go-discards (hasRoom c l)) (sym (close-discards c l));
   failures = tally-more isFailure (l .notes) _ ∙ rw (p .failures, go-failures (hasRoom c l)) (omega arith);
@@ -105,6 +133,8 @@ close-noted c l p = record {
 enter-noted : (ev : Event) (l : Ledger) → Noted l → Noted (enter ev l)
 unfolding enter linesIn
 enter-noted ev l p = record {
+  closed = closed-more [] (l .notes) _ ∙ append-nil (closedBy [] (l .notes)) ∙ p .closed;
+  filling = filling-more [] (l .notes) _ ∙ rw (p .filling);
   lines = made-more (l .notes) _ ∙ rw (p .lines) (rw append-assoc);
   discards = tally-more isDiscard (l .notes) _ ∙ omega (arith, p .discards);
   failures = tally-more isFailure (l .notes) _ ∙ omega (arith, p .failures);
@@ -113,6 +143,8 @@ enter-noted ev l p = record {
 fail-noted : (l : Ledger) (bs : List Bool) → l .sends ≡ false ∷ bs → Noted l → Noted (failedOne bs l)
 unfolding linesIn
 fail-noted l bs e p = record {
+  closed = closed-more [] (l .notes) _ ∙ append-nil (closedBy [] (l .notes)) ∙ p .closed;
+  filling = filling-more [] (l .notes) _ ∙ p .filling;
   lines = made-more (l .notes) _ ∙ append-nil (madeIn (l .notes)) ∙ p .lines;
   discards = tally-more isDiscard (l .notes) _ ∙ omega (arith, p .discards);
   failures = tally-more isFailure (l .notes) _ ∙ omega (arith, p .failures, ap failuresIn e);
@@ -122,9 +154,9 @@ noted-moves : (c : Limits) → Moves c (λ ev. Unit {0}) (λ l h. Noted l)
 unfolding linesIn
 noted-moves c = record {
   close = λ l h e p. close-noted c l p;
-  begin = λ l h ev x e p. record { lines = rw e at (p .lines); discards = p .discards; failures = p .failures };
+  begin = λ l h ev x e p. record { closed = p .closed; filling = rw e at (p .filling); lines = rw e at (p .lines); discards = p .discards; failures = p .failures };
   enter = λ l h ev x r p. enter-noted ev l p;
-  take = λ l h f fs e p. record { lines = p .lines; discards = p .discards; failures = p .failures };
+  take = λ l h f fs e p. record { closed = p .closed; filling = p .filling; lines = p .lines; discards = p .discards; failures = p .failures };
   fail = λ l h bs e p. fail-noted l bs e p;
 }
 
@@ -132,4 +164,4 @@ pub noted-are : (c : Limits) (ops : List Op) → Noted (runL c emptyLedger ops)
 unfolding emptyLedger linesIn
 noted-are c ops =
     run-move c (λ ev. Unit {0}) (λ l h. Noted l) (noted-moves c) emptyLedger [] ops (all-unit (eventsIn ops))
-    (record { lines = refl; discards = refl; failures = refl })
+    (record { closed = refl; filling = refl; lines = refl; discards = refl; failures = refl })
