@@ -1,5 +1,4 @@
 -- A send that failed (rule 8).
-use Prim.Native.Nat.{ℕ}
 use Rattle.codec.specs.Choice.{pick}
 use Rattle.framer.specs.Framer.{failed}
 use Rattle.mirror.specs.Engine.{causeOf, answered}

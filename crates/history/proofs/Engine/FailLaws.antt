@@ -1,5 +1,5 @@
 -- `failed` is answered 0 exactly where a frame is out in the ledger, so each one that is answered 0 marks a frame.
-use Prim.Native.Nat.{ℕ, suc, _+_}
+use Prim.Native.Nat.{ℕ, _+_}
 use mathlib.Core.Path.{_≡_, refl, sym, _∙_, ap}
 use mathlib.Core.Bool.{Bool, true, false, true≢false}
 use mathlib.Core.List.{List, [], _∷_, _++_, map}
@@ -10,14 +10,14 @@ use Rattle.codec.specs.Choice.{pick}
 use Rattle.codec.specs.declared.time.Time.{Time}
 use Rattle.mirror.specs.Engine.{soundOf, answered, causeOf}
 use Rattle.mirror.specs.Failed.{failedOf}
-use Rattle.mirror.specs.Call.{Call, stepOf, runOf}
+use Rattle.mirror.specs.Call.{Call, stepOf}
 use Rattle.mirror.specs.Call as Call
 use Rattle.mirror.specs.declared.engine.Engine.{Engine}
 use Rattle.history.specs.Meaning.{Meaning, starts, stops, updates, reports, ticks, takes, fails, switches, drops, nothing, meaning}
 use Rattle.history.specs.Account.{Account, Event, eventsOf}
-use Rattle.history.specs.Ledger.{Limits, Ledger, Op, failuresIn, isOut, waitingIn, closesBefore, overdue, close, begin, enter, mirrored, passed, taken, failed, stepL, runL, isEmpty}
+use Rattle.history.specs.Ledger.{Limits, Ledger, Op, failuresIn, isOut, waitingIn, closesBefore, overdue, close, enter, mirrored, passed, taken, failed, runL, isEmpty}
 use Rattle.history.specs.Ledger as Rules
-use Rattle.history.specs.Deed.{Deed, deedsOf, done, besides, opsOf, opsOn}
+use Rattle.history.specs.Deed.{deedsOf, done, opsOf, opsOn}
 use Rattle.history.specs.Loss.{failedIn, failedOn}
 use Rattle.history.specs.History.{Plain, All}
 use Rattle.history.proofs.Ground.TestLaws.{wrong}
@@ -25,7 +25,7 @@ use Rattle.history.proofs.Ledger.Moves.{run-appended, begin-keeps, Out,
 use Rattle.history.proofs.Framer.SimLaws.{Tied, run-tied, out-is}
 use Rattle.history.proofs.Sources.BookLaws.{bookOf, Steady}
 use Rattle.history.proofs.Engine.EngineLaws.{step-steady}
-use Rattle.history.proofs.Engine.RunLaws.{deedOf, opsBy, Stepped, stepped, ops-more}
+use Rattle.history.proofs.Engine.RunLaws.{deedOf, opsBy, stepped, ops-more}
 
 -- what it is answered
 pub fails-by : (c : Limits) (e : Engine) (l : Ledger) → soundOf e ≡ true → Tied c (e .framer) l

@@ -1,17 +1,16 @@
 -- The lost bit stands exactly on the first item made after a discard or a failed send, and the notes speak of the ledger's own lines
 -- and losses.
-use Prim.Native.Nat.{ℕ, suc, _+_, _<_}
+use Prim.Native.Nat.{ℕ, _+_, _<_}
 use mathlib.Core.Path.{_≡_, refl, sym, _∙_, ap, subst}
 use mathlib.Core.Bool.{Bool, true, false, not, _||_}
 use mathlib.Core.List.{List, [], _∷_, _++_, map-append, append-assoc, append-nil}
 use native.Mathlib.Omega.{arith}
-use lib.ListN.{length}
 use borrow.Author.Tests.{le-leb, lt-leb}
 use Rattle.codec.specs.Choice.{pick, bit}
 use Rattle.codec.specs.declared.item.State.the-variants as State
 use Rattle.codec.proofs.BoolLaws.{or-false, or-true}
 use Rattle.history.specs.Account.{Event}
-use Rattle.history.specs.Ledger.{Limits, Line, Closed, Note, Ledger, emptyLedger, Op, stateIn, itemIn, discardedIn, failuresIn, hasRoom, lineFor, close, enter, runL, linesIn, closedBy, fillingBy, madeIn, isDiscard, isFailure, tally}
+use Rattle.history.specs.Ledger.{Limits, Line, Closed, Note, Ledger, emptyLedger, Op, stateIn, itemIn, failuresIn, hasRoom, lineFor, close, enter, runL, linesIn, closedBy, fillingBy, madeIn, isDiscard, isFailure, tally}
 use Rattle.history.specs.Ledger as Rules
 use Rattle.history.specs.History.{All}
 use Rattle.history.specs.Loss.{lostBit, Marks, Noted}

@@ -9,7 +9,7 @@ use lib.Seq.{take-append-le, take-add}
 use Rattle.codec.specs.Choice.{pick}
 use Rattle.codec.specs.declared.time.Time.{Time}
 use Rattle.history.specs.Account.{Event}
-use Rattle.history.specs.Ledger.{Limits, Frame, Ledger, Op, keptIn, takenIn, waitingIn, hasRoom, close, begin, enter, mirrored, closesBefore, overdue, taken, isOut, failed, stepL, runL}
+use Rattle.history.specs.Ledger.{Limits, Frame, Ledger, Op, keptIn, takenIn, waitingIn, hasRoom, close, begin, enter, mirrored, closesBefore, overdue, taken, failed, stepL, runL}
 use Rattle.history.specs.Ledger as Rules
 use Rattle.history.proofs.Ground.ListLaws.{kept-append}
 use Rattle.history.proofs.Ledger.Moves.{begin-keeps, taken-none, taken-one, Out, none-out, one-out, out-or-not, failed-none, failed-one}

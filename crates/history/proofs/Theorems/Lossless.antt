@@ -19,7 +19,7 @@ use Rattle.history.specs.Ledger as Rules
 use Rattle.history.specs.Deed.{Deed, eventsOn}
 use Rattle.history.specs.Loss.{lostBit, Marks}
 use Rattle.history.specs.History.{All, Both, Shows, Reads, framesTaken, framesWaiting, framesFilling, History, yieldsIn, ShowsEvent}
-use Rattle.history.proofs.Ground.ListLaws.{empty-is, length-none, all-append, both-append, both-none}
+use Rattle.history.proofs.Ground.ListLaws.{empty-is, length-none, both-append, both-none}
 
 -- the lines of frames, one frame after the other
 abbrev linesOf : List Frame → List Line
