@@ -21,10 +21,10 @@ use Rattle.history.specs.Loss.{failedIn}
 use Rattle.history.specs.History.{framesTaken}
 use Rattle.history.proofs.Ground.Machine.{laid}
 
-abbrev pub told : List Call → List Said → List Deed
-told [] ss = []
-told (x ∷ xs) [] = []
-told (x ∷ xs) (s ∷ ss) = record { call = x; said = s } ∷ told xs ss
+abbrev pub paired : List Call → List Said → List Deed
+paired [] ss = []
+paired (x ∷ xs) [] = []
+paired (x ∷ xs) (s ∷ ss) = record { call = x; said = s } ∷ paired xs ss
 
 abbrev pub later : {A : Type 0} → List A → List A
 later [] = []
@@ -44,7 +44,7 @@ abbrev pub Begins : Case → Type 0
 Begins t = t .row .calls ≡ Call.setup (t .size) (t .room) (t .deadline) (t .pairs) ∷ later (t .row .calls)
 
 abbrev pub deeds : Case → List Deed
-deeds t = told (later (t .row .calls)) (later (t .row .said))
+deeds t = paired (later (t .row .calls)) (later (t .row .said))
 
 abbrev pub ledger : Case → List Deed → Ledger
 ledger t ds = ledgerOf (record { size = t .size; room = t .room; deadline = t .deadline }) (accountsFor (t .pairs)) ds
