@@ -6,4 +6,6 @@ pub mod Tick
 pub mod Take
 pub mod Failed
 pub mod Call
+pub mod Row
+pub mod LaterVectors
 pub mod Vectors

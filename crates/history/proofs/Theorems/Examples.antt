@@ -11,7 +11,9 @@ use Rattle.codec.specs.Item.{encode}
 use Rattle.codec.specs.Layout.{layout}
 use Rattle.mirror.specs.Call.{Call, Said}
 use Rattle.mirror.specs.Call as Call
-use Rattle.mirror.specs.Vectors.{Row, p1, p2, p3, p4, p5, p6, p7, p8, p9, p10, p11, p11-first, p11-fifth}
+use Rattle.mirror.specs.Row.{Row}
+use Rattle.mirror.specs.Vectors.{p1, p2, p3, p4, p5, p6, p7, p8, p9}
+use Rattle.mirror.specs.LaterVectors.{p10, p11, p11-first, p11-fifth}
 use Rattle.history.specs.Meaning.{canState, meaning}
 use Rattle.history.specs.Account.{freshAccount, kindNamed, accountsFor, accountAt, startedAccount, stoppedAccount, updatedAccount, differs, showsBy, reportEvent, reportedAccount, callsFor, stateEvent, tickedAccount, changed}
 use Rattle.history.specs.Ledger.{Ledger, emptyLedger, discardCount, stateIn, itemIn, sizeIn, takenIn, waitingIn, failureCount, sentIn, offsetIn, lineFor, closesBefore, overdue, hasRoom, close, begin, enter, mirrored, passed, taken, isOut, failed}
