@@ -3,7 +3,7 @@ use Prim.Native.Nat.{ℕ, _+_, _-_, _*_, _/_, _%_, _≤_, _<_}
 use mathlib.Core.List.{List}
 use lib.ListN.{length, set, take, drop, replicate, length-take}
 use mathlib.Core.Path.{_≡_, refl, sym, _∙_}
-use mathlib.Core.Bool.{Bool, true, false, _||_}
+use mathlib.Core.Bool.{Bool, true, false, _||_, true≢false, false≢true}
 use Rattle.codec.specs.Choice.{pick}
 use Rattle.codec.proofs.BoolLaws.{and-l, and-r}
 use native.Mathlib.Omega.{arith}
@@ -17,7 +17,7 @@ use Rattle.framer.specs.declared.meter.Meter.{Meter}
 use Rattle.codec.specs.Number.{over, fits, Wrote}
 use Rattle.framer.specs.declared.queue.Queue.{Queue}
 use Rattle.framer.specs.Queue.{queued, lengthAt}
-use Rattle.framer.specs.Meter.{closesFor, isWithin, backIn, itemOf, soundMeter, Sound, startOf, closedMeter, slotOf, placedMeter, takenMeter, offsetFor}
+use Rattle.framer.specs.Meter.{closesFor, isWithin, backIn, itemOf, soundMeter, Sound, startOf, closedMeter, slotOf, counted, placedMeter, takenMeter, failedMeter, offsetFor}
 use Rattle.framer.specs.Framer.{closed, begun, laidOut, itemSize, filledMeter, filledBytes, placed, added, add, passed, notTaken, takeOf, outOf}
 use Rattle.framer.specs.declared.framer.Framer.{Framer}
 use Rattle.codec.specs.declared.item.Item.{Item}
@@ -247,3 +247,34 @@ placed-least m t n h = go (eqb (m .filled) 0) refl
     go : (b : Bool) → eqb (m .filled) 0 ≡ b → 14 ≤ placedMeter m t n .filled
     go true e = rw e (omega arith)
     go false e = let g : 14 ≤ m .filled = rw e at h in rw e (omega arith)
+
+chosen : {A : Type 0} (b : Bool) (x y : A) → b ≡ true → x ≡ pick b x y
+chosen true x y e = refl
+chosen false x y e = absurd (false≢true e)
+
+left : {A : Type 0} (b : Bool) (x y : A) → b ≡ false → y ≡ pick b x y
+left false x y e = refl
+left true x y e = absurd (true≢false e)
+
+-- a failed send, where none is out and where a frame is
+pub fail-none : (m : Meter) → m .out ≡ false → m ≡ failedMeter m
+unfolding failedMeter
+fail-none m e = left (m .out) _ m e
+
+pub fail-out : (m : Meter) (n : ℕ) → m .out ≡ true → n ≡ counted (m .failures)
+    → record {
+      size = m .size;
+      room = m .room;
+      deadline = m .deadline;
+      filled = m .filled;
+      time = m .time;
+      sequence = m .sequence;
+      lost = true;
+      discards = m .discards;
+      out = false;
+      failures = n;
+      first = m .first;
+      waiting = m .waiting;
+    } ≡ failedMeter m
+unfolding failedMeter
+fail-out m n e q = rw q (chosen (m .out) _ m e)

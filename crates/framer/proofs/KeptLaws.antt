@@ -237,4 +237,8 @@ kept-take w n e = rw e (go (eqb (w .meter .waiting) 0) (ltb n (lengthAt (w .queu
 -- the rule looks at nothing that a failed send changes
 pub kept-failed : (w : Framer) → soundMeter (w .meter) ≡ true → soundMeter (failed w .meter) ≡ true
 unfolding failed failedMeter soundMeter
-kept-failed w e = e
+kept-failed w e = go (w .meter .out) refl
+  where
+    go : (b : Bool) → w .meter .out ≡ b → soundMeter (failedMeter (w .meter)) ≡ true
+    go true q = rw q e
+    go false q = rw q e

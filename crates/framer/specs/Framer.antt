@@ -100,6 +100,6 @@ unfoldable pub outOf : Framer → List ℕ → List ℕ
 outOf w out =
     pick (eqb (takeOf w (length out) .answer) 0) (over out 0 (frameAt (w .queue) (w .meter .first))) out
 
--- the frame that is out has failed; no byte is touched (rule 8)
+-- the frame that is out has failed, if one is; no byte is touched (rule 8)
 unfoldable pub failed : Framer → Framer
 failed w = record { meter = failedMeter (w .meter); bytes = w .bytes; queue = w .queue }

@@ -197,19 +197,21 @@ takenMeter m = pick (eqb (m .waiting) 0) m
       waiting = m .waiting - 1;
     })
 
--- the frame that was out has failed: lost becomes pending, the failure count rises, and none is out (rule 8)
+-- the frame that is out has failed: lost becomes pending, the failure count rises, and none is out; where none is out, nothing (rule 8)
 unfoldable pub failedMeter : Meter → Meter
-failedMeter m = record {
-  size = m .size;
-  room = m .room;
-  deadline = m .deadline;
-  filled = m .filled;
-  time = m .time;
-  sequence = m .sequence;
-  lost = true;
-  discards = m .discards;
-  out = false;
-  failures = counted (m .failures);
-  first = m .first;
-  waiting = m .waiting;
-}
+failedMeter m = pick (m .out)
+    (record {
+      size = m .size;
+      room = m .room;
+      deadline = m .deadline;
+      filled = m .filled;
+      time = m .time;
+      sequence = m .sequence;
+      lost = true;
+      discards = m .discards;
+      out = false;
+      failures = counted (m .failures);
+      first = m .first;
+      waiting = m .waiting;
+    })
+    m

@@ -184,7 +184,7 @@ impl Framer {
         }
     }
 
-    // The frame that is out was not sent. Whether one is out is the engine's question.
+    // The frame that is out was not sent; a framer with none out stays as it is.
     pub fn fail(mut self) -> Framer
         ensures { λ r. ⌜ r ≡ failed self ⌝ }
     {

@@ -220,10 +220,13 @@ pub(crate) fn taken_meter(m: Meter) -> Meter
     r
 }
 
-// The frame that was out is lost too. Whether one was out the caller has asked: nothing here depends on it.
+// The frame that is out is lost too; where none is out, nothing is.
 pub(crate) fn failed_meter(m: Meter) -> Meter
     ensures { λ r. ⌜ r ≡ failedMeter m ⌝ }
 {
+    if !m.out {
+        return m;
+    }
     let mut r = m;
     r.lost = true;
     r.out = false;

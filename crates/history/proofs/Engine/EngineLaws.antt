@@ -177,15 +177,14 @@ module _ (e : Engine) (s : Steady e) where
         healthy = s .healthy;
       })
 
-  -- a failed send that is accepted finds a frame out
+  -- a failed send
   fail-does : failedOf e .answer ≡ 0 → Does e (bookOf e) (Rules.fail ∷ []) (failedOf e .engine)
   unfolding failedOf bookOf
   fail-does z =
       let h = accepted e _ _ z in
-      let o : e .framer .meter .out ≡ true = Opened.chosen (e .framer .meter .out) 0 17 (h .0) (wrong 16) (λ q r. q) in
       rw (h .1) (record {
         book = refl;
-        framer = rw o;
+        framer = refl;
         fit = λ c q. (tt, tt);
         count = refl;
         eight = s .eight;

@@ -18,7 +18,7 @@ use Rattle.codec.proofs.BoolLaws.{or-false, or-true}
 use Rattle.framer.specs.Meter.{isWithin, ticksIn, backIn, stateShown, itemOf, offsetFor, backFor, closesFor, counted, closedMeter, placedMeter, takenMeter, failedMeter}
 use Rattle.framer.specs.Framer.{itemSize, filledMeter}
 use Rattle.framer.specs.declared.meter.Meter.{Meter}
-use Rattle.framer.proofs.FramerLaws.{back-by}
+use Rattle.framer.proofs.FramerLaws.{back-by, fail-none, fail-out}
 use Rattle.history.specs.Account.{Event}
 use Rattle.history.specs.Ledger.{Limits, Line, Frame, Ledger, stateIn, itemIn, sizeIn, total, isEmpty, keptIn, discardCount, waitingIn, failuresIn, failureCount, isOut, offsetIn, lineFor, closesBefore, hasRoom, overdue, close, enter, taken}
 use Rattle.history.specs.Clock.{behind}
@@ -193,9 +193,14 @@ take-meter c l (f ∷ fs) e =
     rw (taken-one l f fs e, z) (meter-path refl refl refl refl refl refl refl refl refl refl (omega arith) (omega arith))
 
 -- rule 8
+pub fail-meter-none : (c : Limits) (l : Ledger) → isOut (l .sends) ≡ false → failedMeter (meterOf c l) ≡ meterOf c l
+unfolding meterOf
+fail-meter-none c l e = sym (fail-none (meterOf c l) e)
+
 pub fail-meter : (c : Limits) (l : Ledger) (bs : List Bool) → l .sends ≡ false ∷ bs → failedMeter (meterOf c l) ≡ meterOf c (failedOne bs l)
-unfolding failedMeter meterOf counted failureCount discardCount waitingIn
+unfolding meterOf counted failureCount discardCount waitingIn
 fail-meter c l bs e =
     let n : length (l .sends) ≡ suc (length bs) = ap length e in
     let k : failuresIn (l .sends) ≡ failuresIn bs = ap failuresIn e in
-    meter-path refl refl refl refl refl refl refl refl refl (omega arith) (omega arith) (ap (λ (i : ℕ). length (drop i (keptIn (l .closed)))) n)
+    sym (fail-out (meterOf c l) (counted (failureCount l)) (ap isOut e) refl)
+    ∙ meter-path refl refl refl refl refl refl refl refl refl (omega arith) (omega arith) (ap (λ (i : ℕ). length (drop i (keptIn (l .closed)))) n)

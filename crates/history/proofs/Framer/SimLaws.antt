@@ -1,6 +1,6 @@
 -- The framer is the ledger, and stays so with every operation.
 use Prim.Native.Nat.{ℕ, _+_, _%_, _≤_, _<_}
-use mathlib.Core.Path.{_≡_, refl, sym, _∙_, ap, subst}
+use mathlib.Core.Path.{_≡_, refl, sym, _∙_, ap}
 use mathlib.Core.Bool.{Bool, true, false, not, _&&_, true≢false}
 use mathlib.Core.List.{List, [], _∷_, map, map-append, append-nil}
 use native.Mathlib.Omega.{arith}
@@ -28,7 +28,7 @@ use Rattle.history.proofs.Ledger.Moves.{Ready, begin-opens, begin-stays
 use Rattle.history.proofs.Ledger.LedgerLaws.{SoundL, close-waiting, close-waits, took-waiting, step-sound, empty-sound}
 use Rattle.history.proofs.Ledger.FrameLaws.{laid-length}
 use Rattle.history.proofs.Framer.SlotLaws.{Store, push, put-store}
-use Rattle.history.proofs.Framer.MeterLaws.{filledIn, meterOf, closes-same, overdue-same, take-meter, fail-meter, filled-open, close-meter, begin-meter, enter-meter}
+use Rattle.history.proofs.Framer.MeterLaws.{filledIn, meterOf, closes-same, overdue-same, take-meter, fail-meter-none, fail-meter, filled-open, close-meter, begin-meter, enter-meter}
 use Rattle.history.proofs.Framer.FillLaws.{imageIn, image-front, begin-bytes, enter-bytes}
 
 -- the same numbers, the array of the frame being filled, and in the slots the frames that wait
@@ -189,12 +189,18 @@ module _ (c : Limits) (w : Framer) (l : Ledger) (t : Tied c w l) where
   unfolding meterOf
   out-is = ap (λ (m : Meter). m .out) (t .tie .meter)
 
-  fail-tie : Tie c (pick (w .meter .out) (failed w) w) (Rules.failed l)
-  fail-tie = subst (λ (b : Bool). Tie c (pick b (failed w) w) (Rules.failed l)) (sym out-is) (go (out-or-not (l .sends)))
+  fail-tie : Tie c (failed w) (Rules.failed l)
+  unfolding failed
+  fail-tie = go (out-or-not (l .sends))
     where
-      go : Out (l .sends) → Tie c (pick (isOut (l .sends)) (failed w) w) (Rules.failed l)
-      go (none-out e) = rw (failed-none l e, e) (t .tie)
-      go (one-out bs e) = rw (failed-one l bs e, e) (fail-one-tie bs e)
+      go : Out (l .sends) → Tie c (failed w) (Rules.failed l)
+      go (none-out e) = rw (failed-none l e) (record {
+        meter = ap failedMeter (t .tie .meter) ∙ fail-meter-none c l e;
+        bytes = t .tie .bytes;
+        slots = t .tie .slots;
+        store = t .tie .store;
+      })
+      go (one-out bs e) = rw (failed-one l bs e) (fail-one-tie bs e)
 
 -- each operation keeps the tie
 taken-sound : (w : Framer) → soundMeter (w .meter) ≡ true → soundMeter (takenMeter (w .meter)) ≡ true
@@ -219,11 +225,8 @@ step-tied c w l (Rules.deadline x) t f =
     record { tie = deadline-tie c w l t x; sound = kept-pass w x (t .sound); ledger = step-sound c l (Rules.deadline x) (t .ledger) }
 step-tied c w l Rules.take t f =
     record { tie = take-tie c w l t; sound = taken-sound w (t .sound); ledger = step-sound c l Rules.take (t .ledger) }
-step-tied c w l Rules.fail t f = record { tie = fail-tie c w l t; sound = go (w .meter .out); ledger = step-sound c l Rules.fail (t .ledger) }
-  where
-    go : (b : Bool) → soundMeter (pick b (failed w) w .meter) ≡ true
-    go true = kept-failed w (t .sound)
-    go false = t .sound
+step-tied c w l Rules.fail t f =
+    record { tie = fail-tie c w l t; sound = kept-failed w (t .sound); ledger = step-sound c l Rules.fail (t .ledger) }
 
 pub run-tied : (c : Limits) (w : Framer) (l : Ledger) (ops : List Op) → Tied c w l → All (FitOp c) ops → Tied c (runW w ops) (runL c l ops)
 run-tied c w l [] t f = t

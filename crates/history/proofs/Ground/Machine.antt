@@ -4,7 +4,6 @@ use mathlib.Core.Path.{_≡_, refl}
 use mathlib.Core.Bool.{Bool, true}
 use mathlib.Core.List.{List, [], _∷_, _++_, map}
 use lib.ListN.{length}
-use Rattle.codec.specs.Choice.{pick}
 use Rattle.codec.specs.Number.{Bytes}
 use Rattle.codec.specs.Time.{timeOk}
 use Rattle.codec.specs.Ident.{identBytes}
@@ -26,7 +25,7 @@ abbrev pub stepW : Framer → Op → Framer
 stepW w (Rules.event ev) = add w (ev .time) (offerIn ev) (ev .payload)
 stepW w (Rules.deadline t) = passed w t
 stepW w Rules.take = record { meter = takenMeter (w .meter); bytes = w .bytes; queue = w .queue }
-stepW w Rules.fail = pick (w .meter .out) (failed w) w
+stepW w Rules.fail = failed w
 
 abbrev pub runW : Framer → List Op → Framer
 runW w [] = w
