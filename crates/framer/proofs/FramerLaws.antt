@@ -248,18 +248,19 @@ placed-least m t n h = go (eqb (m .filled) 0) refl
     go true e = rw e (omega arith)
     go false e = let g : 14 ≤ m .filled = rw e at h in rw e (omega arith)
 
-chosen : {A : Type 0} (b : Bool) (x y : A) → b ≡ true → x ≡ pick b x y
-chosen true x y e = refl
-chosen false x y e = absurd (false≢true e)
+-- a choice where its test is known; the test is a field of what is chosen, so it cannot be rewritten by itself
+first-chosen : {A : Type 0} (b : Bool) (x y : A) → b ≡ true → x ≡ pick b x y
+first-chosen true x y e = refl
+first-chosen false x y e = absurd (false≢true e)
 
-left : {A : Type 0} (b : Bool) (x y : A) → b ≡ false → y ≡ pick b x y
-left false x y e = refl
-left true x y e = absurd (true≢false e)
+second-chosen : {A : Type 0} (b : Bool) (x y : A) → b ≡ false → y ≡ pick b x y
+second-chosen false x y e = refl
+second-chosen true x y e = absurd (true≢false e)
 
 -- a failed send, where none is out and where a frame is
 pub fail-none : (m : Meter) → m .out ≡ false → m ≡ failedMeter m
 unfolding failedMeter
-fail-none m e = left (m .out) _ m e
+fail-none m e = second-chosen (m .out) _ m e
 
 pub fail-out : (m : Meter) (n : ℕ) → m .out ≡ true → n ≡ counted (m .failures)
     → record {
@@ -277,4 +278,4 @@ pub fail-out : (m : Meter) (n : ℕ) → m .out ≡ true → n ≡ counted (m .f
       waiting = m .waiting;
     } ≡ failedMeter m
 unfolding failedMeter
-fail-out m n e q = rw q (chosen (m .out) _ m e)
+fail-out m n e q = rw q (first-chosen (m .out) _ m e)
