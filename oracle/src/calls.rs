@@ -89,6 +89,9 @@ fn report(engine: &mut Engine, name: Word, words: &[Word]) -> Option<String> {
             number32(slot)?,
             number32(cycle)?,
         )),
+        (b"flexray-error", [channels, bits]) => {
+            call(Report::flexray_error(number32(channels)?, number32(bits)?))
+        }
         _ => None,
     }
 }

@@ -9,12 +9,13 @@ const LAST: Time = Time {
 };
 const FOUR_MILLIS: u32 = 4_000_000;
 
-fn four_reports() -> [(u64, Report<'static>); 4] {
+fn every_report() -> [(u64, Report<'static>); 5] {
     [
         (0, Report::can(1, &EIGHT)),
         (1, Report::lin(0x7d, 0, &EIGHT)),
         (2, Report::flexray(1, 5, 6, &EIGHT)),
         (2, Report::conflict(3, 1_027, 63)),
+        (2, Report::flexray_error(2, 10)),
     ]
 }
 
@@ -27,7 +28,7 @@ fn filling_since(limits: Limits, header: Time) -> Engine {
 
 /// Each report, and a tick, tells the same of an engine that was left like this.
 fn assert_told(engine: &Engine, now: Time, behind: u32) {
-    for (source, report) in four_reports() {
+    for (source, report) in every_report() {
         let told = engine.clone().report(source, now, &report);
         assert_eq!(told, Ok(behind), "source {source}, {now:?}");
     }
@@ -171,7 +172,7 @@ fn a_state_item_that_closes_for_its_size_tells_the_same() {
 
 #[test]
 fn a_report_behind_tells_also_where_its_closing_discards() {
-    for (source, report) in four_reports() {
+    for (source, report) in every_report() {
         let mut engine = filling_since(limits(64, 1, 0), after(9));
         assert_eq!(engine.report(source, after(7), &report), Ok(2));
         assert_eq!(engine.discards(), 0);
@@ -225,6 +226,8 @@ fn a_refusal_is_the_bare_number() {
         (3, Report::can(1, &[]), 2),
         (1, Report::can(1, &[]), 4),
         (2, Report::conflict(1, 1, 0), 3),
+        (2, Report::flexray_error(1, 2), 3),
+        (0, Report::flexray_error(1, 2), 4),
         (0, Report::can(2_048, &[]), 5),
         (1, Report::lin(0x3d, 0, &[]), 5),
         (0, Report::can(1, &long), 6),

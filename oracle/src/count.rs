@@ -1,9 +1,11 @@
 //! How often a script gets each answer, so that a stored script can be held to a coverage.
 
 use crate::count_clock::Clock;
+use crate::count_error_frames::ErrorFrames;
+use crate::count_errors::Errors;
 use crate::count_failed::Sends;
 use crate::count_pids::Pids;
-use crate::frame::{Header, Item, Kind};
+use crate::frame::{Header, Id, Item, Kind};
 use crate::play::Player;
 use crate::state::LOST;
 use crate::{reader, text};
@@ -11,7 +13,7 @@ use std::collections::BTreeMap;
 
 /// `lines N`, `skipped N`, `bad N`, then `CALL ANSWER N` for each call and answer that occurred,
 /// then `taken WHAT N` for what the taken frames held, then the lines about PIDs, about a clock that
-/// steps back and about sends that failed.
+/// steps back, about sends that failed and about errors without a frame.
 pub fn report(script: &[u8]) -> Vec<u8> {
     let mut player = Player::default();
     let (mut lines, mut skipped, mut bad) = (0usize, 0usize, 0usize);
@@ -19,6 +21,7 @@ pub fn report(script: &[u8]) -> Vec<u8> {
     let mut taken = Taken::default();
     let (mut pids, mut clock) = (Pids::default(), Clock::default());
     let mut sends = Sends::default();
+    let (mut errors, mut error_frames) = (Errors::default(), ErrorFrames::default());
     for (i, line) in text::lines(script).enumerate() {
         lines += 1;
         let before = player.engine().clone();
@@ -35,6 +38,8 @@ pub fn report(script: &[u8]) -> Vec<u8> {
                 taken.look(&call, &answer);
                 pids.look(line, number, after);
                 clock.look(line, &answer, before.framer(), after.framer());
+                errors.look(line, &answer, &before, after);
+                error_frames.look(line, number);
                 *counts.entry((call, number)).or_default() += 1;
             }
             Err(_) => bad += 1,
@@ -50,6 +55,8 @@ pub fn report(script: &[u8]) -> Vec<u8> {
     out.push_str(&pids.report());
     out.push_str(&clock.report());
     out.push_str(&sends.report());
+    out.push_str(&errors.report());
+    out.push_str(&error_frames.report());
     out.into_bytes()
 }
 
@@ -79,7 +86,10 @@ impl Taken {
         self.count("lost", state & LOST != 0);
         self.count("state", item.state.is_some());
         self.count("state-alone", item.id.is_none());
-        self.count("conflict", item.id.is_some() && item.payload.is_none());
+        let is_error = matches!(item.id, Some(Id::FlexRayError { .. }));
+        let has_no_payload = item.id.is_some() && item.payload.is_none();
+        self.count("conflict", has_no_payload && !is_error);
+        self.count("flexray-error", is_error);
         self.count("lin-error", item.kind == Kind::Lin && state & 0x0f != 0);
         self.count("empty-payload", item.payload.is_some_and(<[u8]>::is_empty));
         self.count(

@@ -98,7 +98,9 @@ impl Clock {
 fn timed_call(words: &[&[u8]]) -> Option<(String, Time)> {
     let (seconds, nanos) = match words {
         [b"tick", seconds, nanos] => (seconds, nanos),
-        [b"can" | b"lin" | b"flexray" | b"conflict", _, seconds, nanos, ..] => (seconds, nanos),
+        [b"can" | b"lin" | b"flexray" | b"conflict" | b"flexray-error", _, seconds, nanos, ..] => {
+            (seconds, nanos)
+        }
         _ => return None,
     };
     let call = String::from_utf8_lossy(words[0]).into_owned();

@@ -229,7 +229,7 @@ impl Call<'_> {
         let accepted = self.answer.starts_with('0');
         let mut sources = self.before.sources().iter();
         match self.name {
-            "can" | "lin" | "flexray" | "conflict" => accepted,
+            "can" | "lin" | "flexray" | "conflict" | "flexray-error" => accepted,
             "tick" => accepted && sources.any(|source| source.owes_state()),
             _ => false,
         }

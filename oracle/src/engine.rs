@@ -83,12 +83,14 @@ impl Engine {
         }
         let behind = self.framer.behind(time);
         source.reported = true;
-        if let Some(bits) = report.bits {
-            source.state.bind(bits);
+        if let Some(own) = report.own {
+            source.state.bind(own);
         }
         let always_shown = report.always_shows_state();
         self.framer.add(item, &mut source.state, always_shown);
-        source.state.unbind(report.bits.unwrap_or(0));
+        if let Some(own) = report.own {
+            source.state.unbind(own);
+        }
         Ok(behind)
     }
 
@@ -200,7 +202,7 @@ fn passing_id(source: &Source, report: &Report) -> Result<Id, u8> {
     if report.payload.unwrap_or(&[]).len() > id.longest_payload() {
         return Err(cause::PAYLOAD_TOO_LONG);
     }
-    if !source.passes(id) {
+    if id.is_filtered() && !source.passes(id) {
         return Err(cause::NO_MATCH);
     }
     Ok(id)

@@ -6,6 +6,8 @@ use crate::state;
 
 #[path = "clock_tests.rs"]
 mod clock;
+#[path = "error_tests.rs"]
+mod error;
 #[path = "failed_tests.rs"]
 mod failed;
 

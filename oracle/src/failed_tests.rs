@@ -181,6 +181,7 @@ fn every_sort_of_item_tells_a_failure() {
         (1, Report::lin(0x7d, 0, &EIGHT)),
         (2, Report::flexray(1, 5, 6, &EIGHT)),
         (2, Report::conflict(3, 1_027, 63)),
+        (2, Report::flexray_error(2, 10)),
     ];
     for (source, report) in &reports {
         for known in [false, true] {

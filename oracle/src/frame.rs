@@ -73,14 +73,22 @@ pub enum Id {
     Lin(u8),
     /// Channel A counts 1, channel B 2.
     FlexRay { channels: u8, slot: u16, cycle: u8 },
+    /// An error of these channels that no frame can be named for: it has no slot and no cycle.
+    FlexRayError { channels: u8 },
 }
 
 impl Id {
+    /// What has no frame has nothing that a filter could look at.
+    pub fn is_filtered(self) -> bool {
+        !matches!(self, Id::FlexRayError { .. })
+    }
+
     pub fn longest_payload(self) -> usize {
         match self {
             Id::Can(key) if key & CAN_FD != 0 => 64,
             Id::Can(_) | Id::Lin(_) => 8,
             Id::FlexRay { .. } => 254,
+            Id::FlexRayError { .. } => 0,
         }
     }
 
@@ -88,7 +96,7 @@ impl Id {
         match self {
             Id::Can(_) => 4,
             Id::Lin(_) => 1,
-            Id::FlexRay { .. } => 3,
+            Id::FlexRay { .. } | Id::FlexRayError { .. } => 3,
         }
     }
 }
@@ -96,6 +104,8 @@ impl Id {
 pub const CAN_EXTENDED: u32 = 1 << 31;
 pub const CAN_FD: u32 = 1 << 30;
 pub const CAN_RESERVED: u32 = 1 << 29;
+/// The bit in the first byte of a FlexRay id that says whether slot and cycle are those of a frame.
+pub const SLOT_VALID: u8 = 1 << 3;
 
 #[derive(Clone, Copy, Debug, PartialEq)]
 pub struct Header {

@@ -4,6 +4,8 @@ mod calls;
 mod cause;
 mod count;
 mod count_clock;
+mod count_error_frames;
+mod count_errors;
 mod count_failed;
 mod count_pids;
 mod engine;

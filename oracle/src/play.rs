@@ -102,6 +102,7 @@ fn item(placed: &Placed) -> String {
             slot,
             cycle,
         }) => format!("{channels}/{slot}/{cycle}"),
+        Some(Id::FlexRayError { channels }) => format!("{channels}/-/-"),
     };
     let time = item.time;
     let (next, kind, network) = (placed.next, item.kind as u8, item.network);

@@ -161,6 +161,7 @@ fn every_number_has_its_width() {
         format!("lin {wide} {wide} {narrow} {narrow} {narrow} 00"),
         format!("flexray {wide} {wide} {narrow} {narrow} {narrow} {narrow} 00"),
         format!("conflict {wide} {wide} {narrow} {narrow} {narrow} {narrow}"),
+        format!("flexray-error {wide} {wide} {narrow} {narrow} {narrow}"),
         format!("can-state {wide} 1 1 1 {narrow}"),
         format!("lin-state {wide} 1"),
         format!("flexray-state {wide} 1 {narrow}"),
@@ -214,6 +215,8 @@ lin 1 15 0 0x3D 0 -
 flexray 2 12 0 1 5 6 -
 conflict 2 11 999999999 1 5 6
 flexray 2 11 999999999 1 5 6 -
+flexray-error 2 11 999999997 1 8
+flexray-error 2 11 999999996 1 9
 tick 0 0
 tick 12 1000000
 can 0 0 0 1 -";
@@ -228,9 +231,40 @@ can 0 0 0 1 -";
         "0 back 4000000000",
         "0 back 1",
         "0",
+        "0 back 2",
+        "5",
         "0 back 4294967295",
         "0",
         "0",
     ];
     assert_eq!(play(script)[7..], expected);
+}
+
+#[test]
+fn an_error_without_a_frame_has_no_slot_and_no_cycle() {
+    let script = "setup 64 1 1 3 7
+start 0
+flexray-error 0 16 0 3 10
+flexray-error 0 16 20833 0x1 0
+flexray-error 0 16 20833 3 10 0
+flexray-error 0 16 20833 3
+tick 16 1000000
+take 30";
+    let frame =
+        "0100000000000010000000000010".to_string() + "0000c3070ac00000" + "0002c30700400000";
+    let taken = format!("0 30 {frame}");
+    let expected = ["0", "0", "0", "0", "? 5", "? 6", "0", &taken];
+    assert_eq!(play(script), expected);
+    let ask = |call: &str| play(&format!("{call} {frame}"));
+    assert_eq!(ask("read"), ["0 0 16 0 16"]);
+    assert_eq!(ask("step 14"), ["0 22 16 0 3 7 10 3/-/- -"]);
+    assert_eq!(ask("step 22"), ["0 30 16 20000 3 7 0 1/-/- -"]);
+    assert_eq!(ask("step 30"), ["0 end"]);
+    assert_eq!(ask("payload 14"), ["0 -"]);
+    assert_eq!(ask("rewrite 30"), [format!("0 {frame}")]);
+    let channel_b = frame.replace("c00000", "800000");
+    assert_eq!(
+        play(&format!("step 14 {channel_b}")),
+        ["0 22 16 0 3 7 10 2/-/- -"]
+    );
 }

@@ -1,7 +1,7 @@
 //! Judges a frame and yields its header and items. A refusal is its answer number.
 
 use crate::frame::{Frame, Header, Id, Item, Kind, Placed, Time};
-use crate::frame::{CAN_EXTENDED, CAN_RESERVED, HEADER_LENGTH, NANOS_PER_SECOND};
+use crate::frame::{CAN_EXTENDED, CAN_RESERVED, HEADER_LENGTH, NANOS_PER_SECOND, SLOT_VALID};
 use crate::pid;
 
 pub const TOO_SHORT: u8 = 20;
@@ -141,7 +141,7 @@ fn read_item<'a>(left: &mut Left<'a>, header: Time) -> Result<Item<'a>, u8> {
         None
     };
     let id = if has_id {
-        Some(read_id(left, kind)?)
+        Some(read_id(left, kind, has_payload)?)
     } else {
         None
     };
@@ -177,11 +177,11 @@ fn read_state(left: &mut Left, kind: Kind) -> Result<u8, u8> {
     Ok(state)
 }
 
-fn read_id(left: &mut Left, kind: Kind) -> Result<Id, u8> {
+fn read_id(left: &mut Left, kind: Kind, has_payload: bool) -> Result<Id, u8> {
     match kind {
         Kind::Can => can_id(big_endian(left.take(4)?) as u32),
         Kind::Lin => lin_id(left.byte()?),
-        Kind::FlexRay => flexray_id(left.take(3)?),
+        Kind::FlexRay => flexray_id(left.take(3)?, has_payload),
     }
 }
 
@@ -202,20 +202,31 @@ fn lin_id(pid: u8) -> Result<Id, u8> {
     Ok(Id::Lin(pid))
 }
 
-fn flexray_id(id: &[u8]) -> Result<Id, u8> {
-    if id[0] & 0x38 != 0x08 {
+/// An item that has an id and no payload shows its state: only such a one may do without a slot.
+fn flexray_id(id: &[u8], has_payload: bool) -> Result<Id, u8> {
+    let slot_valid = id[0] & SLOT_VALID != 0;
+    if id[0] & 0x30 != 0 || !slot_valid && has_payload {
         return Err(RESERVED);
     }
     let channels = id[0] >> 6;
     let slot = u16::from(id[0] & 0x07) << 8 | u16::from(id[1]);
     let cycle = id[2];
-    if channels == 0 || slot == 0 || cycle > 63 {
+    let in_range = if slot_valid {
+        slot != 0 && cycle <= 63
+    } else {
+        slot == 0 && cycle == 0
+    };
+    if channels == 0 || !in_range {
         return Err(OUT_OF_RANGE);
     }
-    Ok(Id::FlexRay {
-        channels,
-        slot,
-        cycle,
+    Ok(if slot_valid {
+        Id::FlexRay {
+            channels,
+            slot,
+            cycle,
+        }
+    } else {
+        Id::FlexRayError { channels }
     })
 }
 

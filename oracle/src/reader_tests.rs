@@ -218,6 +218,77 @@ fn flexray_ids() {
     assert_eq!(refusal(&[0, 0, 0x63, 7, 0x00, 0x00]), 23);
 }
 
+/// The refusals of an id with each set of flags that has one: id and payload, all, state and id.
+fn flexray_refusals(id: [u8; 3]) -> [u8; 3] {
+    let heads: [(&[u8], &[u8]); 3] = [
+        (&[0, 0, 0x63, 7], &[0]),
+        (&[0, 0, 0xe3, 7, 0x4a], &[0]),
+        (&[0, 0, 0xc3, 7, 0x4a], &[]),
+    ];
+    heads.map(|(head, tail)| refusal(&[head, &id, tail].concat()))
+}
+
+#[test]
+fn an_error_without_a_frame_stands_with_state_and_id_alone() {
+    for channels in [0x40, 0x80, 0xc0] {
+        assert_eq!(flexray_refusals([channels, 0, 0]), [25, 25, 0]);
+        for reserved in [0x10, 0x20, 0x30] {
+            assert_eq!(flexray_refusals([channels | reserved, 0, 0]), [25; 3]);
+            assert_eq!(flexray_refusals([channels | reserved | 7, 1, 64]), [25; 3]);
+            assert_eq!(flexray_refusals([channels | reserved | 8, 1, 0]), [25; 3]);
+        }
+        for bit in 0..8 {
+            assert_eq!(flexray_refusals([channels, 1 << bit, 0]), [25, 25, 29]);
+            assert_eq!(flexray_refusals([channels, 0, 1 << bit]), [25, 25, 29]);
+        }
+        for high in 1..8 {
+            assert_eq!(flexray_refusals([channels | high, 0, 0]), [25, 25, 29]);
+            assert_eq!(flexray_refusals([channels | high, 3, 63]), [25, 25, 29]);
+        }
+        // With bit 3 the slot and the cycle are a frame's, with each set of flags.
+        assert_eq!(flexray_refusals([channels | 8, 0, 0]), [29; 3]);
+        assert_eq!(flexray_refusals([channels | 8, 1, 0]), [0; 3]);
+        assert_eq!(flexray_refusals([channels | 8, 1, 64]), [29; 3]);
+    }
+    assert_eq!(flexray_refusals([0, 0, 0]), [25, 25, 29]);
+    assert_eq!(flexray_refusals([0x10, 0, 0]), [25; 3]);
+}
+
+#[test]
+fn an_error_that_is_cut_misses_bytes_first() {
+    for first in [0xc0, 0xd0, 0x00, 0xc1] {
+        for head in [&[0, 0, 0xc3, 7, 0][..], &[0, 0, 0x63, 7]] {
+            assert_eq!(refusal(head), 23);
+            assert_eq!(refusal(&[head, &[first]].concat()), 23);
+            assert_eq!(refusal(&[head, &[first, 1]].concat()), 23);
+        }
+    }
+    // The payload's length is another field: the id is judged before it is missed.
+    assert_eq!(refusal(&[0, 0, 0x63, 7, 0xc0, 0, 0]), 25);
+    assert_eq!(refusal(&[0, 0, 0xe3, 7, 0, 0xc0, 0, 0]), 25);
+    assert_eq!(refusal(&[0, 0, 0x63, 7, 0xc0, 0, 0, 255]), 25);
+}
+
+#[test]
+fn an_error_before_and_behind_other_items() {
+    let error = [0, 1, 0xc3, 7, 0x8e, 0x80, 0, 0];
+    let state = [0, 0, 0x83, 7, 0x40];
+    let frame = framed(&[&error[..], &state, &error].concat());
+    let items = read(&frame).unwrap().items;
+    let ids: Vec<Option<Id>> = items.iter().map(|placed| placed.item.id).collect();
+    let id = Some(Id::FlexRayError { channels: 2 });
+    assert_eq!(ids, [id, None, id]);
+    let starts: Vec<usize> = items.iter().map(|placed| placed.start).collect();
+    assert_eq!(starts, [14, 22, 27]);
+    assert_eq!(items[2].item.state, Some(0x8e));
+    assert_eq!(items[2].item.payload, None);
+    assert_eq!(payload(&frame, 27), Ok([].as_slice()));
+    let wrong = [0, 1, 0xc3, 7, 0x8e, 0x80, 0, 1];
+    assert_eq!(refusal(&[&error[..], &wrong].concat()), 29);
+    assert_eq!(refusal(&[&wrong[..], &error].concat()), 29);
+    assert_eq!(refused_item(&framed(&[error, wrong].concat())), Some(22));
+}
+
 #[test]
 fn payload_lengths() {
     let with = |head: &[u8], length: usize| {

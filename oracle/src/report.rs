@@ -2,15 +2,14 @@
 
 use crate::frame::{Id, Kind, CAN_EXTENDED, CAN_RESERVED};
 use crate::pid;
-use crate::state::CONFLICT;
+use crate::state::Own;
 
 pub struct Report<'a> {
     pub kind: Kind,
     /// Nothing where a number of the report is out of range, or the parity of a PID is wrong.
     pub id: Option<Id>,
-    /// Rule 4: the bits of the state byte that belong to this report alone. Nothing where the
-    /// report says nothing of the state; no bit set says that it is known.
-    pub bits: Option<u8>,
+    /// Rule 4: nothing where the report says nothing of the state; no bit set says that it is known.
+    pub own: Option<Own>,
     pub payload: Option<&'a [u8]>,
 }
 
@@ -19,17 +18,17 @@ impl<'a> Report<'a> {
         Report {
             kind: Kind::Can,
             id: can_id(key),
-            bits: None,
+            own: None,
             payload: Some(payload),
         }
     }
 
     pub fn lin(pid: u32, errors: u32, payload: &'a [u8]) -> Report<'a> {
-        let bits = u8::try_from(errors).ok().filter(|&bits| bits < 16);
+        let own = Own::lin(errors);
         Report {
             kind: Kind::Lin,
-            id: lin_id(pid).filter(|_| bits.is_some()),
-            bits,
+            id: lin_id(pid).filter(|_| own.is_some()),
+            own,
             payload: Some(payload),
         }
     }
@@ -38,7 +37,7 @@ impl<'a> Report<'a> {
         Report {
             kind: Kind::FlexRay,
             id: flexray_id(channels, slot, cycle),
-            bits: None,
+            own: None,
             payload: Some(payload),
         }
     }
@@ -48,14 +47,27 @@ impl<'a> Report<'a> {
         Report {
             kind: Kind::FlexRay,
             id: flexray_id(channels, slot, cycle),
-            bits: Some(CONFLICT),
+            own: Some(Own::CONFLICT),
             payload: None,
         }
     }
 
-    /// Rule 4: a bit of its own is never left out.
+    /// An error of these channels without a frame: id and state, no payload.
+    pub fn flexray_error(channels: u32, errors: u32) -> Report<'a> {
+        let own = Own::flexray(errors);
+        let channels = flexray_channels(channels).filter(|_| own.is_some());
+        Report {
+            kind: Kind::FlexRay,
+            id: channels.map(|channels| Id::FlexRayError { channels }),
+            own,
+            payload: None,
+        }
+    }
+
+    /// Rule 4: an error is never left out, and a report without a payload is there for the state,
+    /// also where no bit of it is set.
     pub fn always_shows_state(&self) -> bool {
-        self.bits.is_some_and(|bits| bits != 0)
+        self.payload.is_none() || self.own.is_some_and(Own::any_set)
     }
 }
 
@@ -71,11 +83,15 @@ fn lin_id(pid: u32) -> Option<Id> {
 }
 
 fn flexray_id(channels: u32, slot: u32, cycle: u32) -> Option<Id> {
-    let in_range =
-        (1..=3).contains(&channels) && (1..=2_047).contains(&slot) && (0..=63).contains(&cycle);
+    let channels = flexray_channels(channels)?;
+    let in_range = (1..=2_047).contains(&slot) && (0..=63).contains(&cycle);
     in_range.then_some(Id::FlexRay {
-        channels: channels as u8,
+        channels,
         slot: slot as u16,
         cycle: cycle as u8,
     })
+}
+
+fn flexray_channels(channels: u32) -> Option<u8> {
+    (1..=3).contains(&channels).then_some(channels as u8)
 }

@@ -4,7 +4,10 @@ pub const LOST: u8 = 0x80;
 const ONLINE: u8 = 0x40;
 const PASSIVE: u8 = 0x20;
 const BUS_OFF: u8 = 0x10;
-/// The transmission conflict is bit 0 of FlexRay's state table (Specification of Bus Mirroring, table 7.5).
+/// The error bits of LIN's state table, and those of FlexRay's: syntax error, content error and
+/// boundary violation over the transmission conflict (Specification of Bus Mirroring, tables 7.4 and 7.5).
+pub const LIN_ERRORS: u8 = 0x0f;
+pub const FLEXRAY_ERRORS: u8 = 0x0e;
 pub const CONFLICT: u8 = 0x01;
 
 /// Neither byte ever holds the bit for lost frames, which belongs to no source.
@@ -18,6 +21,11 @@ pub struct State {
 impl State {
     pub fn byte(&self) -> u8 {
         self.current.unwrap_or(0)
+    }
+
+    /// What was last shown of it.
+    pub fn shown(&self) -> Option<u8> {
+        self.shown
     }
 
     pub fn is_known(&self) -> bool {
@@ -40,13 +48,45 @@ impl State {
         }
     }
 
-    /// Writes the bits of one report. They are clear between items, so that adding them is enough.
-    pub fn bind(&mut self, bits: u8) {
-        self.current = Some(self.byte() | bits);
+    /// Writes the bits of one report over those of the report before it.
+    pub fn bind(&mut self, own: Own) {
+        self.current = Some(self.byte() & !own.mask | own.bits);
     }
 
-    pub fn unbind(&mut self, bits: u8) {
-        self.current = self.current.map(|byte| byte & !bits);
+    pub fn unbind(&mut self, own: Own) {
+        self.current = self.current.map(|byte| byte & !own.mask);
+    }
+}
+
+/// The bits of the state byte that belong to one report alone: which, and which of them are set.
+#[derive(Clone, Copy, Debug, PartialEq)]
+pub struct Own {
+    mask: u8,
+    bits: u8,
+}
+
+impl Own {
+    pub const CONFLICT: Own = Own {
+        mask: CONFLICT,
+        bits: CONFLICT,
+    };
+
+    pub fn lin(errors: u32) -> Option<Own> {
+        Own::under(LIN_ERRORS, errors)
+    }
+
+    pub fn flexray(errors: u32) -> Option<Own> {
+        Own::under(FLEXRAY_ERRORS, errors)
+    }
+
+    pub fn any_set(self) -> bool {
+        self.bits != 0
+    }
+
+    /// Nothing where a bit beside the mask is set.
+    fn under(mask: u8, errors: u32) -> Option<Own> {
+        let bits = u8::try_from(errors).ok()?;
+        (bits & !mask == 0).then_some(Own { mask, bits })
     }
 }
 
@@ -75,10 +115,11 @@ pub fn of_lin(online: bool) -> u8 {
     bit(online, ONLINE)
 }
 
-/// The byte of a FlexRay update, or nothing where the update is out of range.
+/// The byte of a FlexRay update, or nothing where the update is out of range: the bits that belong
+/// to a report are not its own to give.
 pub fn of_flexray(online: bool, bits: u32) -> Option<u8> {
     let byte = u8::try_from(bits).ok()?;
-    let allowed = byte < ONLINE && byte & CONFLICT == 0;
+    let allowed = byte < ONLINE && byte & (FLEXRAY_ERRORS | CONFLICT) == 0;
     allowed.then_some(bit(online, ONLINE) | byte)
 }
 
@@ -103,9 +144,15 @@ mod tests {
 
     #[test]
     fn flexray_bytes() {
-        assert_eq!(of_flexray(true, 0x3e), Some(0x7e));
-        assert_eq!(of_flexray(false, 0x3e), Some(0x3e));
-        for bits in [1, 0x3f, 0x40, 0x80, 0x100, u32::MAX] {
+        for (bits, byte) in [(0, 0x40), (0x10, 0x50), (0x20, 0x60), (0x30, 0x70)] {
+            assert_eq!(of_flexray(true, bits), Some(byte));
+            assert_eq!(of_flexray(false, bits), Some(bits as u8));
+        }
+        for bits in (0..64).filter(|bits| bits % 16 != 0) {
+            assert_eq!(of_flexray(true, bits), None, "{bits:#x}");
+            assert_eq!(of_flexray(false, bits), None, "{bits:#x}");
+        }
+        for bits in [0x40, 0x80, 0x100, 0x130, 0x1_0000, u32::MAX - 15, u32::MAX] {
             assert_eq!(of_flexray(true, bits), None, "{bits:#x}");
         }
     }
@@ -129,11 +176,62 @@ mod tests {
     fn bound_bits_go_and_leave_the_rest() {
         let mut state = State::default();
         state.update(0x40);
-        state.bind(0x05);
+        let own = Own::lin(5).unwrap();
+        state.bind(own);
         state.mark_shown();
         assert_eq!(state.byte(), 0x45);
-        state.unbind(0x05);
+        state.unbind(own);
         assert_eq!(state.byte(), 0x40);
         assert!(state.is_news());
+    }
+
+    #[test]
+    fn which_bits_are_a_reports_own() {
+        for errors in 0..16 {
+            let lin = Own::lin(errors).unwrap();
+            assert_eq!(lin.any_set(), errors != 0);
+            assert_eq!(Own::flexray(errors).is_some(), errors % 2 == 0);
+        }
+        for errors in [
+            16,
+            0x1e,
+            0x20,
+            0x40,
+            0x80,
+            0x100,
+            0x10e,
+            u32::MAX - 1,
+            u32::MAX,
+        ] {
+            assert_eq!(Own::lin(errors), None, "{errors:#x}");
+            assert_eq!(Own::flexray(errors), None, "{errors:#x}");
+        }
+    }
+
+    /// Between items none of these bits is set; here all are, so that it shows which ones are touched.
+    #[test]
+    fn own_bits_are_written_over_and_others_stay() {
+        let after = |own: Own| {
+            let mut state = State::default();
+            state.update(0x7f);
+            state.bind(own);
+            let bound = state.byte();
+            state.unbind(own);
+            (bound, state.byte())
+        };
+        assert_eq!(after(Own::flexray(0).unwrap()), (0x71, 0x71));
+        assert_eq!(after(Own::flexray(0x0a).unwrap()), (0x7b, 0x71));
+        assert_eq!(after(Own::CONFLICT), (0x7f, 0x7e));
+        assert_eq!(after(Own::lin(5).unwrap()), (0x75, 0x70));
+    }
+
+    #[test]
+    fn no_bit_set_makes_the_byte_known_too() {
+        let mut state = State::default();
+        state.bind(Own::flexray(0).unwrap());
+        assert!(state.is_known());
+        assert!(state.is_news());
+        state.unbind(Own::flexray(0).unwrap());
+        assert!(state.is_known());
     }
 }

@@ -1,7 +1,7 @@
 //! Lays a header and items out as bytes, from what the reader yields and from nothing else.
 
 use crate::cause::OUTPUT_TOO_SHORT;
-use crate::frame::{Frame, Header, Id, Item, Time};
+use crate::frame::{Frame, Header, Id, Item, Time, SLOT_VALID};
 use crate::reader;
 
 /// The answer number; the output changes only where it is 0.
@@ -66,10 +66,11 @@ fn put_id(out: &mut Vec<u8>, id: Id) {
             slot,
             cycle,
         } => {
-            out.push(channels << 6 | 0x08 | (slot >> 8) as u8);
+            out.push(channels << 6 | SLOT_VALID | (slot >> 8) as u8);
             out.push(slot as u8);
             out.push(cycle);
         }
+        Id::FlexRayError { channels } => out.extend_from_slice(&[channels << 6, 0, 0]),
     }
 }
 
@@ -93,6 +94,23 @@ mod tests {
             },
         );
         assert_eq!(out, [0xcc, 0x03, 0x3f]);
+    }
+
+    #[test]
+    fn an_error_has_its_channels_alone() {
+        for (channels, byte) in [(1, 0x40), (2, 0x80), (3, 0xc0)] {
+            let mut out = Vec::new();
+            put_id(&mut out, Id::FlexRayError { channels });
+            assert_eq!(out, [byte, 0, 0]);
+        }
+        let frame = [
+            1, 9, 0, 0, 0, 0, 0, 1, 0, 0, 0, 2, 0, 8, 0xff, 0xff, 0xc3, 4, 0x8a, 0x80, 0, 0,
+        ];
+        let mut output = [0xee; 23];
+        assert_eq!(rewrite(&frame, &mut output), 0);
+        assert_eq!(output[..22], frame);
+        assert_eq!(output[22], 0xee);
+        assert_eq!(rewrite(&frame, &mut [0; 21]), 12);
     }
 
     #[test]

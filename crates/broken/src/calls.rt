@@ -1,4 +1,4 @@
-// The 23 calls of the engine in three parts: how many of them answer 19.
+// The 24 calls of the engine in three parts: how many of them answer 19.
 use codec::time::Time;
 use mirror::engine::Engine;
 
@@ -6,7 +6,7 @@ fn tally(n: u64, answer: u8) -> u64 {
     if answer != 19 {
         return n;
     }
-    if n < 23 { n + 1 } else { n }
+    if n < 24 { n + 1 } else { n }
 }
 
 fn now() -> Time {
@@ -30,9 +30,10 @@ pub(crate) fn second(n: u64, e: Engine) -> u64 {
     let b = tally(a, e.lin(1, now(), 125, 0, b"\x01").answer);
     let d = tally(b, e.flexray(2, now(), 1, 1, 0, b"\x01").answer);
     let f = tally(d, e.conflict(2, now(), 1, 1, 0).answer);
-    let g = tally(f, e.can_state(0, true, false, false, 0).answer);
-    let h = tally(g, e.lin_state(1, true).answer);
-    tally(h, e.flexray_state(2, true, 0).answer)
+    let g = tally(f, e.flexray_error(2, now(), 1, 8).answer);
+    let h = tally(g, e.can_state(0, true, false, false, 0).answer);
+    let i = tally(h, e.lin_state(1, true).answer);
+    tally(i, e.flexray_state(2, true, 0).answer)
 }
 
 pub(crate) fn third(n: u64, e: Engine) -> u64 {

@@ -18,7 +18,7 @@ fn line(out: &mut [u8], k: usize) -> usize {
     let a = past(breach::name(out, k), 0);
     let b = past(codec::number::put_bytes(out, a, b": 19 from "), a);
     let d = past(text::put::decimal(out, b, n), b);
-    past(codec::number::put_bytes(out, d, b" of 23 calls\n"), d)
+    past(codec::number::put_bytes(out, d, b" of 24 calls\n"), d)
 }
 
 fn main() {

@@ -1,7 +1,7 @@
 -- Laws of filters, sources, reports and updates. Assumes nothing.
 use Prim.Native.Nat.{ℕ, suc, _+_, _*_, _%_, _^_, _≤_, _<_}
 use mathlib.Core.Path.{_≡_, refl, sym, _∙_}
-use mathlib.Core.Bool.{Bool, true, false, not}
+use mathlib.Core.Bool.{Bool, true, false, not, _&&_}
 use mathlib.Core.List.{List, [], _∷_, map}
 use native.Mathlib.Omega.{arith}
 use native.Mathlib.Numerals.{add-one}
@@ -10,18 +10,20 @@ use lib.Seq.{drop-cons}
 use lib.Dec.{leb, ltb, eqb}
 use lib.Bits.{bitAnd, bitOr, or-shifted, and-mask}
 use mir.Val.{boolByte}
-use borrow.Author.Tests.{leb-false, ltb-false, eqb-false, not-false}
+use borrow.Author.Tests.{le-ltb, leb-false, ltb-false, eqb-false, not-false}
 use Rattle.codec.specs.Choice.{pick, bit}
 use Rattle.codec.specs.Number.{Below}
 use Rattle.codec.specs.Time.{timeOk}
-use Rattle.codec.specs.Ident.{kindOf, mostOf}
+use Rattle.codec.specs.Ident.{kindOf, mostOf, channelsOk}
 use Rattle.codec.specs.Item.{itemLength}
+use Rattle.codec.specs.declared.time.Time.{Time}
+use Rattle.codec.specs.declared.ident.Kind.the-variants as Kind
 use Rattle.codec.specs.declared.ident.Ident.{Ident}
 use Rattle.codec.specs.declared.item.State.the-variants as State
 use Rattle.codec.proofs.ItemLaws.{most-small}
-use Rattle.bus.specs.Filter.{matches, isFree, sameKind}
+use Rattle.bus.specs.Filter.{matches, filtered, isFree, sameKind}
 use Rattle.bus.specs.Source.{passes, freeAt, addCause}
-use Rattle.bus.specs.Report.{tooBig, earlyCause, lateCause, reportCause}
+use Rattle.bus.specs.Report.{errorBits, errorReport, tooBig, earlyCause, lateCause, reportCause}
 use Rattle.bus.specs.Update.{updateCause}
 use Rattle.bus.specs.declared.filter.Filter.{Filter}
 use Rattle.bus.specs.declared.filter.Place.{Place}
@@ -177,7 +179,7 @@ pub record Passed (count f : ℕ) (s : Source) (r : Report) (n : ℕ) : Type 0 w
   pub started : s .started ≡ true
   pub ranged : r .ranged ≡ true
   pub most : n ≤ mostOf (r .ident)
-  pub passes : passes (s .places) (r .ident) ≡ true
+  pub passes : filtered (r .ident) ≡ true → passes (s .places) (r .ident) ≡ true
   pub fits : 14 + itemLength (record { offset = record { 0 = 0 }; network = 0; state = State.Byte 0; ident = r .ident; carries = r .carries }) n ≤ f
 
 pub cause-passed : (count f : ℕ) (s : Source) (r : Report) (n : ℕ) → reportCause count f s r n ≡ 0 → Passed count f s r n
@@ -185,7 +187,7 @@ unfolding reportCause lateCause tooBig
 cause-passed count f s r n e =
     let h = early-passed count s r n (lateCause f s r n) e in
     let z = early-0 count s r n (lateCause f s r n) e .6 in
-    let z1 = pick-0 (not (passes (s .places) (r .ident))) 0 (pick (tooBig f r n) 8 0) z in
+    let z1 = pick-0 (filtered (r .ident) && not (passes (s .places) (r .ident))) 0 (pick (tooBig f r n) 8 0) z in
     let z8 = pick-0 (tooBig f r n) 7 0 (z1 .1) in
     record {
       time = h .time;
@@ -194,9 +196,21 @@ cause-passed count f s r n e =
       started = h .started;
       ranged = h .ranged;
       most = h .most;
-      passes = not-false (passes (s .places) (r .ident)) (z1 .0);
+      passes = λ a. not-false (passes (s .places) (r .ident)) (rw a at (z1 .0));
       fits = ltb-false f (14 + itemLength (record { offset = record { 0 = 0 }; network = 0; state = State.Byte 0; ident = r .ident; carries = r .carries }) n) (z8 .0);
     }
+
+-- an error without a frame is refused with 7, 2, 4, 3 or 5: it has no payload, no filter is asked, and it fits every frame
+pub error-cause : (count f : ℕ) (s : Source) (source : ℕ) (t : Time) (channels bits : ℕ) → 22 ≤ f
+    → reportCause count f s (errorReport source t channels bits) 0
+    ≡ pick (not (timeOk t)) 7
+    (pick (leb count source) 2
+    (pick (not (sameKind (s .kind) Kind.FlexRay)) 4
+    (pick (not (s .started)) 3
+    (pick (not (channelsOk channels && errorBits bits)) 5
+    0))))
+unfolding reportCause earlyCause lateCause tooBig errorReport
+error-cause count f s source t channels bits h = rw (le-ltb f 22 h)
 
 -- what an accepted state update passed
 pub record Updates (count : ℕ) (s : Source) (u : Update) : Type 0 where

@@ -2,6 +2,7 @@
 use mathlib.Core.Path.{_≡_, sym, _∙_}
 use Rattle.bus.proofs.filter.low16.Reads as low16
 use Rattle.bus.proofs.filter.filter_matches.Reads as filter-matches
+use Rattle.bus.proofs.filter.filtered.Reads as filtered
 use Rattle.bus.proofs.filter.is_free.Reads as is-free
 use Rattle.bus.proofs.filter.same_kind.Reads as same-kind
 use Rattle.bus.proofs.filter.can_mask.Reads as can-mask
@@ -13,6 +14,7 @@ use Rattle.bus.proofs.report.can.Reads as report-can
 use Rattle.bus.proofs.report.lin.Reads as report-lin
 use Rattle.bus.proofs.report.flexray.Reads as report-flexray
 use Rattle.bus.proofs.report.conflict.Reads as conflict
+use Rattle.bus.proofs.report.error.Reads as error
 use Rattle.bus.proofs.report.report_cause.Reads as report-cause
 use Rattle.bus.proofs.report.offer.Reads as offer
 use Rattle.bus.proofs.report.settle.Reads as settle
@@ -42,6 +44,9 @@ low16-unique κs a r r′ x x′ p q = p ∙ sym q
 
 pub filter-matches-unique : (κs : _) (a : _) (r r′ : _) (x x′ : _) → filter-matches.Post κs a r x → filter-matches.Post κs a r′ x′ → r ≡ r′
 filter-matches-unique κs a r r′ x x′ p q = p ∙ sym q
+
+pub filtered-unique : (κs : _) (a : _) (r r′ : _) (x x′ : _) → filtered.Post κs a r x → filtered.Post κs a r′ x′ → r ≡ r′
+filtered-unique κs a r r′ x x′ p q = p ∙ sym q
 
 pub is-free-unique : (κs : _) (a : _) (r r′ : _) (x x′ : _) → is-free.Post κs a r x → is-free.Post κs a r′ x′ → r ≡ r′
 is-free-unique κs a r r′ x x′ p q = p ∙ sym q
@@ -75,6 +80,9 @@ report-flexray-unique κs a r r′ x x′ p q = p ∙ sym q
 
 pub conflict-unique : (κs : _) (a : _) (r r′ : _) (x x′ : _) → conflict.Post κs a r x → conflict.Post κs a r′ x′ → r ≡ r′
 conflict-unique κs a r r′ x x′ p q = p ∙ sym q
+
+pub error-unique : (κs : _) (a : _) (r r′ : _) (x x′ : _) → error.Post κs a r x → error.Post κs a r′ x′ → r ≡ r′
+error-unique κs a r r′ x x′ p q = p ∙ sym q
 
 pub report-cause-unique : (κs : _) (a : _) (r r′ : _) (x x′ : _) → report-cause.Post κs a r x → report-cause.Post κs a r′ x′ → r ≡ r′
 report-cause-unique κs a r r′ x x′ p q = p ∙ sym q

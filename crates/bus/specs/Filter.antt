@@ -32,12 +32,21 @@ slotted (Filter.Range lower upper) slot cycle = false
 slotted (Filter.Slots low high lowCycle highCycle repetition) slot cycle =
     leb low slot && leb slot high && cycled cycle lowCycle highCycle repetition
 
--- the CAN key is the 32-bit id with its type bits, the LIN key PID mod 64
+-- the CAN key is the 32-bit id with its type bits, the LIN key PID mod 64; an error without a frame has nothing to be asked for
 abbrev pub matches : Filter → Ident → Bool
 matches f (Ident.Can key) = keyed f key
 matches f (Ident.Lin pid) = keyed f (pid % 64)
 matches f (Ident.FlexRay channels slot cycle) = slotted f slot cycle
+matches f (Ident.FlexRayError channels) = false
 matches f (Ident.Bare k) = false
+
+-- whether filters are asked at all: not for an error without a frame
+abbrev pub filtered : Ident → Bool
+filtered (Ident.Can key) = true
+filtered (Ident.Lin pid) = true
+filtered (Ident.FlexRay channels slot cycle) = true
+filtered (Ident.FlexRayError channels) = false
+filtered (Ident.Bare k) = true
 
 abbrev pub isFree : Filter → Bool
 isFree Filter.Free = true

@@ -1,18 +1,18 @@
 -- Reports (docs/RULES.md, "Answers", "Frame bytes", rules 4 and 5).
 use Prim.Native.Nat.{ℕ, _+_, _%_}
 use mathlib.Core.Bool.{Bool, true, false, not, _&&_, _||_}
-use lib.Dec.{leb, ltb}
+use lib.Dec.{leb, ltb, eqb}
 use lib.Bits.{bitAnd, bitOr}
 use Rattle.codec.specs.Choice.{pick}
 use Rattle.codec.specs.Time.{timeOk}
-use Rattle.codec.specs.Ident.{identOk, kindOf, mostOf, flexrayRange}
+use Rattle.codec.specs.Ident.{identOk, kindOf, mostOf, channelsOk, flexrayRange}
 use Rattle.codec.specs.Item.{itemLength}
 use Rattle.codec.specs.declared.time.Time.{Time}
 use Rattle.codec.specs.declared.ident.Ident.{Ident}
 use Rattle.codec.specs.declared.ident.Ident.the-variants as Ident
 use Rattle.codec.specs.declared.item.State.the-variants as State
 use Rattle.framer.specs.declared.offer.Offer.{Offer}
-use Rattle.bus.specs.Filter.{sameKind}
+use Rattle.bus.specs.Filter.{filtered, sameKind}
 use Rattle.bus.specs.Source.{due, passes}
 use Rattle.bus.specs.declared.source.Source.{Source}
 use Rattle.bus.specs.declared.report.Report.{Report}
@@ -61,6 +61,23 @@ frameReport source t channels slot cycle = flexrayReport source t channels slot 
 abbrev pub conflictReport : ℕ → Time → ℕ → ℕ → ℕ → Report
 conflictReport source t channels slot cycle = flexrayReport source t channels slot cycle false 254 1
 
+-- syntax error 8, content error 4, boundary violation 2, any mix and also none (SWS_Mirror_00091 to 00093)
+unfoldable pub errorBits : ℕ → Bool
+errorBits bits = leb bits 15 && eqb (bits % 2) 0
+
+-- an error without a frame writes bits 3 to 1 and leaves bit 0; a number in range is its own remainder (rules 4 and 5;
+-- SWS_Mirror_00146, 00159)
+unfoldable pub errorReport : ℕ → Time → ℕ → ℕ → Report
+errorReport source t channels bits = record {
+  source = source;
+  time = t;
+  ident = Ident.FlexRayError (channels % 256);
+  carries = false;
+  ranged = channelsOk channels && errorBits bits;
+  kept = 241;
+  raised = bits % 256;
+}
+
 -- the item, counted with a state byte, plus 14 exceeds F (answer 8)
 unfoldable pub tooBig : ℕ → Report → ℕ → Bool
 tooBig f r n = ltb f (14 + itemLength (record {
@@ -85,7 +102,7 @@ earlyCause count s r n rest =
 -- 1, 8
 unfoldable pub lateCause : ℕ → Source → Report → ℕ → ℕ
 lateCause f s r n =
-    pick (not (passes (s .places) (r .ident))) 1
+    pick (filtered (r .ident) && not (passes (s .places) (r .ident))) 1
     (pick (tooBig f r n) 8
     0)
 
@@ -107,14 +124,18 @@ noted s r = record {
   places = s .places;
 }
 
--- what is to be mirrored; a raised bit is never left out (rules 4 and 5)
+-- a raised bit is never left out, and a report without a payload is there to tell the state (rules 4 and 5)
+abbrev pub insists : Report → Bool
+insists r = ltb 0 (r .raised) || not (r .carries)
+
+-- what is to be mirrored (rules 4 and 5)
 unfoldable pub offerOf : Source → Report → Offer
 offerOf s r = record {
   network = s .network;
   ident = r .ident;
   carries = r .carries;
   state = noted s r .state;
-  due = due (noted s r) || ltb 0 (r .raised);
+  due = due (noted s r) || insists r;
 }
 
 -- after the item: frame-bound bits are clear, the byte counts as shown, a report was accepted (rules 4 and 6)

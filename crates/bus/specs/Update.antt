@@ -30,12 +30,12 @@ canUpdate source online passive busOff counter = record {
 unfoldable pub linUpdate : ℕ → Bool → Update
 linUpdate source online = record { source = source; kind = Kind.Lin; good = true; state = bit online * 64 }
 
--- online and bits 5 to 0, with the Tx conflict bit, bit 0, clear; bits in range are their own remainder
+-- online and bits 5 and 4; the frame-bound bits, 3 to 0, are clear; bits in range are their own remainder
 unfoldable pub flexrayUpdate : ℕ → Bool → ℕ → Update
 flexrayUpdate source online bits = record {
   source = source;
   kind = Kind.FlexRay;
-  good = leb bits 63 && eqb (bits % 2) 0;
+  good = leb bits 63 && eqb (bits % 16) 0;
   state = bit online * 64 + bits % 64;
 }
 

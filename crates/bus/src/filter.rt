@@ -7,7 +7,7 @@ ghost use Prim.Native.Nat.{ℕ, _%_};
 ghost use lib.Dec.{leb};
 ghost use Rattle.codec.specs.declared.ident.Ident.the-variants as Ident;
 ghost use Rattle.bus.specs.Source.{passes};
-ghost use Rattle.bus.specs.Filter.{keyed, slotted, matches, isFree, sameKind, canMask, canRange, linMask, linRange, slotsOf, cycled};
+ghost use Rattle.bus.specs.Filter.{keyed, slotted, matches, filtered, isFree, sameKind, canMask, canRange, linMask, linRange, slotsOf, cycled};
 
 pub enum Filter {
     Free,
@@ -175,7 +175,25 @@ pub fn filter_matches(f: Filter, id: Ident) -> bool
             slot,
             cycle,
         } => slot_matches(f, slot, cycle),
+        Ident::FlexRayError(_) => false,
         Ident::Bare(_) => false,
+    }
+}
+
+// An error without a frame has no id that a filter could be asked for.
+pub fn filtered(id: Ident) -> bool
+    ensures { λ r. ⌜ r ≡ filtered id ⌝ }
+{
+    match id {
+        Ident::Can(_) => true,
+        Ident::Lin(_) => true,
+        Ident::FlexRay {
+            channels: _,
+            slot: _,
+            cycle: _,
+        } => true,
+        Ident::FlexRayError(_) => false,
+        Ident::Bare(_) => true,
     }
 }
 

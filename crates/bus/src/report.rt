@@ -10,7 +10,7 @@ use framer::offer::Offer;
 ghost use mathlib.Core.Path.{_≡_};
 ghost use mathlib.Core.Bool.{true, false};
 ghost use Rattle.codec.specs.Ident.{flexrayRange};
-ghost use Rattle.bus.specs.Report.{canReport, linReport, flexrayReport, frameReport, conflictReport, tooBig, earlyCause, lateCause, reportCause, noted, offerOf, settled};
+ghost use Rattle.bus.specs.Report.{canReport, linReport, flexrayReport, frameReport, conflictReport, errorBits, errorReport, tooBig, earlyCause, lateCause, reportCause, noted, insists, offerOf, settled};
 
 pub struct Report {
     pub source: u64,
@@ -99,6 +99,28 @@ pub fn conflict(source: u64, time: Time, channels: u32, slot: u32, cycle: u32) -
     flexray_report(source, time, channels, slot, cycle, false, 254, 1)
 }
 
+// Bits 3 to 1: syntax error, content error, boundary violation.
+fn error_bits(bits: u32) -> bool
+    ensures { λ r. ⌜ r ≡ errorBits bits ⌝ }
+{
+    (bits <= 15) & (bits & 1 == 0)
+}
+
+// An error on channels of FlexRay that belongs to no frame.
+pub fn error(source: u64, time: Time, channels: u32, bits: u32) -> Report
+    ensures { λ r. ⌜ r ≡ errorReport source time channels bits ⌝ }
+{
+    Report {
+        source,
+        time,
+        ident: Ident::FlexRayError(codec::number::low8(channels as u64)),
+        carries: false,
+        ranged: codec::ident::channels_ok(channels) & error_bits(bits),
+        kept: 241,
+        raised: codec::number::low8(bits as u64),
+    }
+}
+
 // The item counted with a state byte, after a header, exceeds a frame of f bytes.
 fn too_big(f: usize, r: Report, n: u8) -> bool
     ensures { λ b. ⌜ b ≡ tooBig f r n ⌝ }
@@ -138,7 +160,7 @@ fn late_cause(f: usize, s: Source, r: Report, n: u8) -> u8
 {
     let ident = r.ident;
     let big = crate::source::first(too_big(f, r, n), 8, 0);
-    crate::source::first(!s.passes(ident), 1, big)
+    crate::source::first(crate::filter::filtered(ident) & !s.passes(ident), 1, big)
 }
 
 // The first cause of refusing the report, with a payload of n bytes, to a frame of at most f bytes, or 0.
@@ -162,6 +184,13 @@ fn note(s: Source, r: Report) -> Source
     n
 }
 
+// A raised bit is never left out; a report without a payload is there to tell the state.
+fn insists(r: Report) -> bool
+    ensures { λ b. ⌜ b ≡ insists r ⌝ }
+{
+    (0 < r.raised) | !r.carries
+}
+
 pub fn offer(s: Source, r: Report) -> Offer
     ensures { λ o. ⌜ o ≡ offerOf s r ⌝ }
 {
@@ -172,7 +201,7 @@ pub fn offer(s: Source, r: Report) -> Offer
         ident,
         carries: r.carries,
         state: n.state,
-        due: n.due() | (0 < r.raised),
+        due: n.due() | insists(r),
     }
 }
 

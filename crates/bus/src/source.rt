@@ -91,6 +91,7 @@ impl Source {
                 slot,
                 cycle,
             } => return crate::filter::slot_passes(places, slot, cycle),
+            Ident::FlexRayError(_) => return false,
             Ident::Bare(_) => return false,
         };
         crate::filter::key_passes(places, key)

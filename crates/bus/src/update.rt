@@ -52,14 +52,14 @@ pub fn lin(source: u64, online: bool) -> Update
     }
 }
 
-// The Tx conflict bit is a conflict report's alone.
+// The four low bits are bound to reports: three to errors without a frame, the lowest to a conflict.
 pub fn flexray(source: u64, online: bool, bits: u32) -> Update
     ensures { λ r. ⌜ r ≡ flexrayUpdate source online bits ⌝ }
 {
     Update {
         source,
         kind: Kind::FlexRay,
-        good: (bits <= 63) & (bits & 1 == 0),
+        good: (bits <= 63) & (bits & 15 == 0),
         state: (online as u8) << 6 | (bits & 63) as u8,
     }
 }

@@ -1,7 +1,7 @@
 -- Each field that was read: its bytes stand there, and what it says of the item. Assumes nothing.
 use Prim.Native.Nat.{ℕ, _+_, _-_, _*_, _/_, _%_, _^_, _≤_, _<_}
 use mathlib.Core.Path.{_≡_, refl, sym, ap}
-use mathlib.Core.Bool.{Bool, true, false}
+use mathlib.Core.Bool.{Bool, true, false, _&&_}
 use mathlib.Core.List.{List, [], _∷_, _++_}
 use native.Mathlib.Omega.{arith}
 use lib.ListN.{length, take, drop, getD, length-append, length-drop}
@@ -10,10 +10,11 @@ use lib.Dec.{ltb, eqb}
 use borrow.Author.Tests.{ltb-false, leb-true, le-leb, eqb-true}
 use Rattle.codec.specs.Choice.{pick, bit}
 use Rattle.codec.specs.Number.{be, word, fits, Bytes, get8Of, get16Of, get32Of, partOf}
-use Rattle.codec.specs.Ident.{networkType, kindIn, kindOf, identBytes, identBit, identOk, canZero, canRange, pidOk, flexrayRange, flexrayBytes}
-use Rattle.codec.specs.Item.{stateBytes, stateBit, setOk, stateOk, loadOk, loadBytes}
-use Rattle.codec.specs.Field.{readFlags, readState, canIdent, linIdent, flexrayIdent, readCan, readLin, readFlexray, readIdent, readLoad, bytesAt}
+use Rattle.codec.specs.Ident.{networkType, kindIn, kindOf, identBytes, identBit, identOk, canZero, canRange, pidOk, channelsOk, flexrayRange, flexrayBytes, errorBytes}
+use Rattle.codec.specs.Item.{stateBytes, stateBit, setOk, setFor, aloneIn, stateOk, loadOk, loadBytes}
+use Rattle.codec.specs.Field.{readFlags, readState, canIdent, linIdent, frameIdent, errorIdent, flexrayIdent, readCan, readLin, readFlexray, readIdent, readLoad, bytesAt}
 use Rattle.codec.specs.Layout.{StateFits, IdentFits}
+use Rattle.codec.specs.declared.number.Part.the-variants as Part
 use Rattle.codec.specs.declared.number.Read8.{Read8}
 use Rattle.codec.specs.declared.number.Read8.the-variants as Read8
 use Rattle.codec.specs.declared.number.Read16.{Read16}
@@ -36,6 +37,7 @@ use Rattle.codec.specs.declared.field.IdentRead.{IdentRead}
 use Rattle.codec.specs.declared.field.IdentRead.the-variants as IdentRead
 use Rattle.codec.specs.declared.field.LoadRead.{LoadRead}
 use Rattle.codec.specs.declared.field.LoadRead.the-variants as LoadRead
+use Rattle.codec.proofs.BoolLaws.{and-l, and-r}
 use Rattle.codec.proofs.NumberLaws.{length-be, part-room, has-room}
 use Rattle.codec.proofs.Stands.{Stands, join, stands-none, stands-part, bytes-part, bytes-at, word-stands, word-below}
 use Rattle.codec.proofs.RoundTrip.{part-none}
@@ -149,11 +151,12 @@ pub record StateGot (s : List ℕ) (at : ℕ) (kind : Kind) (present : Bool) (st
   pub here : stateBit state ≡ bit present
   pub ok : stateOk kind state ≡ true
 
-pub record IdentGot (s : List ℕ) (at : ℕ) (kind : Kind) (present : Bool) (ident : Ident) (next : ℕ) : Type 0 where
+pub record IdentGot (s : List ℕ) (at : ℕ) (kind : Kind) (present : Bool) (alone : Bool) (ident : Ident) (next : ℕ) : Type 0 where
   pub took : Took s at (identBytes ident) next (IdentFits ident)
   pub here : identBit ident ≡ bit present
   pub ok : identOk ident ≡ true
   pub same : kindOf ident ≡ kind
+  pub goes : (set : ℕ) → aloneIn set ≡ alone → setOk set ≡ true → setFor ident set ≡ true
 
 pub record LoadGot (s : List ℕ) (at most : ℕ) (carries : Bool) (start len next : ℕ) : Type 0 where
   pub took : Took s at (loadBytes carries (bytesAt s start len)) next (Bytes (loadBytes carries (bytesAt s start len)))
@@ -192,7 +195,7 @@ module _ (s : List ℕ) (at : ℕ) where
       let y : at ≡ next = cc in
       rw (← x, ← y) record { took = took-none s at; here = refl; ok = refl }
 
-  can-got : {ident : Ident} {next : ℕ} → readCan s at ≡ IdentRead.Got ident next → IdentGot s at Kind.Can true ident next
+  can-got : {alone : Bool} {ident : Ident} {next : ℕ} → readCan s at ≡ IdentRead.Got ident next → IdentGot s at Kind.Can true alone ident next
   unfolding readCan canIdent
   can-got {ident} {next} e =
       in32 (get32Of s at) _ _ e (λ z. never (cc)) (λ v n p e1.
@@ -200,51 +203,97 @@ module _ (s : List ℕ) (at : ℕ) where
       chosen (canRange v) _ _ e2 (λ z. never (cc)) (λ g e3.
       let x : Ident.Can v ≡ ident = cc in
       let y : n ≡ next = cc in
-      rw (← x, ← y) record { took = took32 s at p; here = refl; ok = simp (f, g); same = refl })))
+      rw (← x, ← y) record { took = took32 s at p; here = refl; ok = simp (f, g); same = refl; goes = λ set a k. k })))
 
-  lin-got : {ident : Ident} {next : ℕ} → readLin s at ≡ IdentRead.Got ident next → IdentGot s at Kind.Lin true ident next
+  lin-got : {alone : Bool} {ident : Ident} {next : ℕ} → readLin s at ≡ IdentRead.Got ident next → IdentGot s at Kind.Lin true alone ident next
   unfolding readLin linIdent
   lin-got {ident} {next} e =
       in8 (get8Of s at) _ _ e (λ z. never (cc)) (λ v n p e1.
       chosen (pidOk v) _ _ e1 (λ z. never (cc)) (λ f e2.
       let x : Ident.Lin v ≡ ident = cc in
       let y : n ≡ next = cc in
-      rw (← x, ← y) record { took = took8 s at p; here = refl; ok = f; same = refl }))
+      rw (← x, ← y) record { took = took8 s at p; here = refl; ok = f; same = refl; goes = λ set a k. k }))
 
-  flexray-got : {ident : Ident} {next : ℕ} → readFlexray s at ≡ IdentRead.Got ident next → IdentGot s at Kind.FlexRay true ident next
-  unfolding readFlexray flexrayIdent
-  flexray-got {ident} {next} e =
-      inPart (partOf s at 3) _ _ e (λ z. never (cc)) (λ n p e1.
-      chosen (eqb (getD s at 0 / 8 % 8) 1) _ _ e1 (λ z. never (cc)) (λ f e2.
-      chosen (flexrayRange (getD s at 0 / 64) (getD s at 0 % 8 * 256 + getD s (at + 1) 0) (getD s (at + 2) 0)) _ _ e2 (λ z. never (cc)) (λ g e3.
-      let x : Ident.FlexRay (getD s at 0 / 64) (getD s at 0 % 8 * 256 + getD s (at + 1) 0) (getD s (at + 2) 0) ≡ ident = cc in
+  -- the three bytes of a FlexRay id
+  abbrev front : ℕ
+  front = getD s at 0
+
+  abbrev low : ℕ
+  low = getD s (at + 1) 0
+
+  abbrev cycle : ℕ
+  cycle = getD s (at + 2) 0
+
+  three : at + 3 ≤ length s → Stands s at (front ∷ low ∷ cycle ∷ [])
+  three h = join (join (byte-stands s at (omega arith)) (byte-stands s (at + 1) (omega arith))) (byte-stands s (at + 2) (omega arith))
+
+  frame-got : {alone : Bool} {ident : Ident} {n next : ℕ} → partOf s at 3 ≡ Part.Got n → front / 8 % 8 ≡ 1
+      → frameIdent (front / 64) (front % 8 * 256 + low) cycle n ≡ IdentRead.Got ident next → IdentGot s at Kind.FlexRay true alone ident next
+  unfolding frameIdent
+  frame-got {ident = ident} {n = n} {next = next} p m e =
+      chosen (flexrayRange (front / 64) (front % 8 * 256 + low) cycle) _ _ e (λ z. never (cc)) (λ g q.
+      let x : Ident.FlexRay (front / 64) (front % 8 * 256 + low) cycle ≡ ident = cc in
       let y : n ≡ next = cc in
       let r = part-room s at 3 p in
-      let m = eqb-true (getD s at 0 / 8 % 8) 1 f in
       rw (← x, ← y) record {
-        took = record { ends = r .1; room = λ h. omega arith; stands = λ b h. three (r .0) m (bytes-at s (at + 1) b); within = λ b. tt };
+        took = record { ends = r .1; room = λ h. omega arith; stands = λ b h. laid (r .0) (bytes-at s (at + 1) b); within = λ b. tt };
         here = refl;
         ok = g;
         same = refl;
-      })))
+        goes = λ set a k. k;
+      })
     where
-      three : at + 3 ≤ length s → getD s at 0 / 8 % 8 ≡ 1 → getD s (at + 1) 0 < 256
-          → Stands s at (flexrayBytes (getD s at 0 / 64) (getD s at 0 % 8 * 256 + getD s (at + 1) 0) (getD s (at + 2) 0))
-      three h m l =
-          let p : getD s at 0 / 64 * 64 + 8 + (getD s at 0 % 8 * 256 + getD s (at + 1) 0) / 256 ≡ getD s at 0 = omega arith in
-          let q : (getD s at 0 % 8 * 256 + getD s (at + 1) 0) % 256 ≡ getD s (at + 1) 0 = omega arith in
-          rw (p, q) (join (join (byte-stands s at (omega arith)) (byte-stands s (at + 1) (omega arith))) (byte-stands s (at + 2) (omega arith)))
+      laid : at + 3 ≤ length s → low < 256 → Stands s at (flexrayBytes (front / 64) (front % 8 * 256 + low) cycle)
+      laid h l =
+          let p : front / 64 * 64 + 8 + (front % 8 * 256 + low) / 256 ≡ front = omega arith in
+          let q : (front % 8 * 256 + low) % 256 ≡ low = omega arith in
+          rw (p, q) (three h)
 
-  pub ident-got : {kind : Kind} {present : Bool} {ident : Ident} {next : ℕ} → readIdent s at kind present ≡ IdentRead.Got ident next
-      → IdentGot s at kind present ident next
+  error-got : {ident : Ident} {n next : ℕ} → partOf s at 3 ≡ Part.Got n → front / 8 % 8 ≡ 0
+      → errorIdent (front / 64) (front % 8 * 256 + low) cycle n ≡ IdentRead.Got ident next → IdentGot s at Kind.FlexRay true true ident next
+  unfolding errorIdent
+  error-got {ident} {n} {next} p m e =
+      chosen (channelsOk (front / 64) && eqb (front % 8 * 256 + low) 0 && eqb cycle 0) _ _ e (λ z. never (cc)) (λ g q.
+      let x : Ident.FlexRayError (front / 64) ≡ ident = cc in
+      let y : n ≡ next = cc in
+      let r = part-room s at 3 p in
+      let k = and-l (channelsOk (front / 64) && eqb (front % 8 * 256 + low) 0) (eqb cycle 0) g in
+      let i = eqb-true (front % 8 * 256 + low) 0 (and-r (channelsOk (front / 64)) (eqb (front % 8 * 256 + low) 0) k) in
+      let j = eqb-true cycle 0 (and-r (channelsOk (front / 64) && eqb (front % 8 * 256 + low) 0) (eqb cycle 0) g) in
+      rw (← x, ← y) record {
+        took = record { ends = r .1; room = λ h. omega arith; stands = λ b h. laid (r .0) i j; within = λ b. tt };
+        here = refl;
+        ok = and-l (channelsOk (front / 64)) (eqb (front % 8 * 256 + low) 0) k;
+        same = refl;
+        goes = λ set a z. a;
+      })
+    where
+      laid : at + 3 ≤ length s → front % 8 * 256 + low ≡ 0 → cycle ≡ 0 → Stands s at (errorBytes (front / 64))
+      laid h i j =
+          let p : front / 64 * 64 ≡ front = omega arith in
+          let q : low ≡ 0 = omega arith in
+          rw p (rw (q, j) at (three h))
+
+  flexray-got : {alone : Bool} {ident : Ident} {next : ℕ} → readFlexray s at alone ≡ IdentRead.Got ident next
+      → IdentGot s at Kind.FlexRay true alone ident next
+  unfolding readFlexray flexrayIdent
+  flexray-got {alone} {ident} {next} e =
+      inPart (partOf s at 3) _ _ e (λ z. never (cc)) (λ n p e1.
+      chosen (eqb (front / 8 % 8) 1) _ _ e1 (λ e2.
+      chosen (alone && eqb (front / 8 % 8) 0) _ _ e2 (λ z. never (cc)) (λ f e3.
+      rw (and-l alone (eqb (front / 8 % 8) 0) f) (error-got p (eqb-true (front / 8 % 8) 0 (and-r alone (eqb (front / 8 % 8) 0) f)) e3)))
+      (λ f e2. frame-got p (eqb-true (front / 8 % 8) 1 f) e2))
+
+  pub ident-got : {kind : Kind} {present : Bool} {alone : Bool} {ident : Ident} {next : ℕ}
+      → readIdent s at kind present alone ≡ IdentRead.Got ident next → IdentGot s at kind present alone ident next
   unfolding readIdent
   ident-got {kind = Kind.Can} {present = true} e = can-got e
   ident-got {kind = Kind.Lin} {present = true} e = lin-got e
   ident-got {kind = Kind.FlexRay} {present = true} e = flexray-got e
-  ident-got {kind} {present = false} {ident} {next} e =
+  ident-got {kind} {present = false} {ident = ident} {next = next} e =
       let x : Ident.Bare kind ≡ ident = cc in
       let y : at ≡ next = cc in
-      rw (← x, ← y) record { took = took-none s at; here = refl; ok = refl; same = refl }
+      rw (← x, ← y) record { took = took-none s at; here = refl; ok = refl; same = refl; goes = λ set a k. k }
 
   -- a payload, or none
   pub load-got : {most : ℕ} {carries : Bool} {start len next : ℕ} → readLoad s at most carries ≡ LoadRead.Got start len next

@@ -7,6 +7,7 @@ use lib.Dec.{eqb}
 use lib.Bits.{bitAnd, and-mask}
 use Rattle.codec.specs.Number.{get8Of, get16Of}
 use Rattle.codec.specs.Ident.{mostOf}
+use Rattle.codec.specs.Item.{aloneIn}
 use Rattle.codec.specs.Field.{readFlags, readState, readIdent, readLoad, readItem, openLoad}
 use Rattle.codec.specs.declared.number.Read8.the-variants as Read8
 use Rattle.codec.specs.declared.number.Read16.the-variants as Read16
@@ -32,7 +33,7 @@ pub read-last : (s : List ℕ) (at : ℕ) {ticks a set b network d e f : ℕ} {k
     → readFlags s a ≡ FlagsRead.Got kind set b
     → get8Of s b ≡ Read8.Got network d
     → readState s d kind (eqb (bitAnd (set / 4) 1) 1) ≡ StateRead.Got state e
-    → readIdent s e kind (eqb (bitAnd (set / 2) 1) 1) ≡ IdentRead.Got ident f
+    → readIdent s e kind (eqb (bitAnd (set / 2) 1) 1) (aloneIn set) ≡ IdentRead.Got ident f
     → {most : ℕ} → most ≡ mostOf ident → (r : LoadRead) → readLoad s f most (eqb (bitAnd set 1) 1) ≡ r
     → loaded ticks network state ident (eqb (bitAnd set 1) 1) r ≡ readItem s at
 unfolding readItem

@@ -10,7 +10,7 @@ use borrow.Author.Tests.{ltb-false, leb-true, eqb-true}
 use Rattle.codec.specs.Choice.{bit}
 use Rattle.codec.specs.Number.{word, Bytes, get8Of, get16Of}
 use Rattle.codec.specs.Ident.{networkType, kindOf, identBit, mostOf}
-use Rattle.codec.specs.Item.{stateBit, setOf, setOk, encode, itemOk}
+use Rattle.codec.specs.Item.{stateBit, setOf, setOk, aloneIn, encode, itemOk}
 use Rattle.codec.specs.Field.{readFlags, readState, readIdent, readLoad, readItem, bytesAt}
 use Rattle.codec.specs.Header.{headerBytes, headerIn, readHeader}
 use Rattle.codec.specs.Layout.{Valid}
@@ -65,7 +65,7 @@ item-got s at {it} {start} {len} {next} eq =
     inFlags (readFlags s a) _ e1 (λ y z. never (cc)) (λ kind set b p2 e2.
     in8 (get8Of s b) _ _ e2 (λ z. never (cc)) (λ network d p3 e3.
     inState (readState s d kind (eqb (set / 4 % 2) 1)) _ e3 (λ y z. never (cc)) (λ state e p4 e4.
-    inIdent (readIdent s e kind (eqb (set / 2 % 2) 1)) _ e4 (λ y z. never (cc)) (λ ident f p5 e5.
+    inIdent (readIdent s e kind (eqb (set / 2 % 2) 1) (aloneIn set)) _ e4 (λ y z. never (cc)) (λ ident f p5 e5.
     inLoad (readLoad s f (mostOf ident) (eqb (set % 2) 1)) _ e5 (λ y z. never (cc)) (λ start' len' next' p6 e6.
     let h : at + 2 ≤ length s = room16 s at p1 in
     let t1 = took16 s at p1 in
@@ -88,7 +88,7 @@ item-got s at {it} {start} {len} {next} eq =
       ends = all .ends;
       stands = λ k. all .stands k (omega arith);
       valid = λ k. record {
-        ok = simp (t6 .size, g, t2 .ok, t5 .same, t4 .ok, t5 .ok, t6 .ok);
+        ok = simp (t6 .size, g, t5 .goes set refl (t2 .ok), t5 .same, t4 .ok, t5 .ok, t6 .ok);
         offset = t1 .within k;
         network = t3 .within k;
         state = t4 .took .within k;

@@ -11,8 +11,8 @@ use mir.Val.{boolByte}
 use borrow.Author.Tests.{leb-true, eqb-true, eq-eqb, ne-eqb}
 use Rattle.codec.specs.Choice.{bit}
 use Rattle.codec.specs.Number.{be, Laid, Below}
-use Rattle.codec.specs.Ident.{kindOf, identBytes, identOk, mostOf, canFd, canMost, flexrayRange}
-use Rattle.codec.specs.Item.{stateBytes, setOf, setOk, stateOk, loadOk, loadBytes, loadLength, flagsOf, encode, itemOk, itemLength}
+use Rattle.codec.specs.Ident.{kindOf, identBytes, identOk, mostOf, canFd, canMost, channelsOk, flexrayRange}
+use Rattle.codec.specs.Item.{stateBytes, setOf, setOk, setFor, stateOk, loadOk, loadBytes, loadLength, flagsOf, encode, itemOk, itemLength}
 use Rattle.codec.specs.declared.ident.Ident.{Ident}
 use Rattle.codec.specs.declared.ident.Ident.the-variants as Ident
 use Rattle.codec.specs.declared.item.Item.{Item}
@@ -78,16 +78,25 @@ most-small (Ident.Can key) = fd (canFd key)
     fd false = omega arith
 most-small (Ident.Lin pid) = omega arith
 most-small (Ident.FlexRay channels slot cycle) = omega arith
+most-small (Ident.FlexRayError channels) = omega arith
 most-small (Ident.Bare k) = omega arith
 
 load-short : (carries : Bool) (most n : ℕ) → most ≤ 254 → loadOk carries most n ≡ true → n ≤ 254
 load-short true most n m e = let h : n ≤ most = leb-true n most e in omega arith
 load-short false most n m e = let h : n ≡ 0 = eqb-true n 0 e in omega arith
 
+-- a set that goes with an id is one of the four
+pub set-known : (id : Ident) (set : ℕ) → setFor id set ≡ true → setOk set ≡ true
+set-known (Ident.Can key) set e = e
+set-known (Ident.Lin pid) set e = e
+set-known (Ident.FlexRay channels slot cycle) set e = e
+set-known (Ident.FlexRayError channels) set e = rw (eqb-true set 6 e)
+set-known (Ident.Bare k) set e = e
+
 -- what an item that may stand in a frame meets
 module _ (it : Item) (n : ℕ) (e : itemOk it n ≡ true) where
   abbrev set : Bool
-  set = setOk (setOf (it .state) (it .ident) (it .carries))
+  set = setFor (it .ident) (setOf (it .state) (it .ident) (it .carries))
 
   abbrev bits : Bool
   bits = stateOk (kindOf (it .ident)) (it .state)
@@ -113,6 +122,10 @@ module _ (it : Item) (n : ℕ) (e : itemOk it n ≡ true) where
 
 pub ok-short : (it : Item) (n : ℕ) → itemOk it n ≡ true → n ≤ 254
 ok-short it n e = load-short (it .carries) (mostOf (it .ident)) n (most-small (it .ident)) (ok-load it n e)
+
+-- what channels in range are
+pub channels-in : (c : ℕ) → channelsOk c ≡ true → (1 ≤ c) × (c ≤ 3)
+channels-in c e = (leb-true 1 c (and-l (leb 1 c) (leb c 3) e), leb-true c 3 (and-r (leb 1 c) (leb c 3) e))
 
 -- what a FlexRay id in range holds
 pub flexray-in : (c s y : ℕ) → flexrayRange c s y ≡ true → (1 ≤ c) × (c ≤ 3) × (1 ≤ s) × (s ≤ 2047) × (y ≤ 63)

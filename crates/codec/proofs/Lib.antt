@@ -10,5 +10,6 @@ pub mod RoundTrip
 pub mod Opened
 pub mod FieldInverse
 pub mod Inverse
+pub mod Narrow
 pub mod Unique
 pub mod Vectors

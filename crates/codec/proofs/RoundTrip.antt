@@ -12,8 +12,8 @@ use borrow.Author.Tests.{le-ltb, le-leb, leb-true, eq-eqb, eqb-true}
 use Rattle.codec.specs.Choice.{pick, bit}
 use Rattle.codec.specs.Number.{be, val, word, fits, Bytes, get8Of, get16Of, get32Of, partOf}
 use Rattle.codec.specs.Ident.{networkType, kindIn, kindOf, identBytes, identBit, identOk, mostOf, canZero, canRange}
-use Rattle.codec.specs.Item.{stateBytes, stateBit, setOk, stateOk, loadOk, loadBytes, flagsOf, encode}
-use Rattle.codec.specs.Field.{readFlags, readState, canIdent, flexrayIdent, readCan, readLin, linIdent, readFlexray, readIdent, readLoad, readItem, bytesAt}
+use Rattle.codec.specs.Item.{stateBytes, stateBit, setOf, setOk, setFor, aloneIn, stateOk, loadOk, loadBytes, flagsOf, encode}
+use Rattle.codec.specs.Field.{readFlags, readState, canIdent, flexrayIdent, readCan, readLin, linIdent, frameIdent, errorIdent, readFlexray, readIdent, readLoad, readItem, bytesAt}
 use Rattle.codec.specs.Header.{headerBytes, readHeader}
 use Rattle.codec.specs.Layout.{Entry, Valid, StateFits, IdentFits}
 use Rattle.codec.specs.declared.number.Part.the-variants as Part
@@ -39,7 +39,7 @@ use Rattle.codec.specs.declared.header.HeaderRead.{HeaderRead}
 use Rattle.codec.specs.declared.header.HeaderRead.the-variants as HeaderRead
 use Rattle.codec.proofs.NumberLaws.{length-be, has-room}
 use Rattle.codec.proofs.BoolLaws.{and-l, and-r}
-use Rattle.codec.proofs.ItemLaws.{set-small, ok-set, ok-state, ok-ident, ok-load, ok-short, flexray-in, length-load, encode-length}
+use Rattle.codec.proofs.ItemLaws.{set-small, set-known, ok-set, ok-state, ok-ident, ok-load, ok-short, channels-in, flexray-in, length-load, encode-length}
 use Rattle.codec.proofs.Stands.{Stands, left, right, part-back, room-back, val-be, bytes-be, bytes-join}
 
 -- where the payload of an item that stands at index at starts
@@ -113,12 +113,12 @@ module _ {s : List ℕ} {at : ℕ} where
   state-back kind (State.Byte b) ok w = simp (back8 w, ok)
   state-back kind State.Absent ok w = simp add-zero
 
-  ident-back : (ident : Ident) → identOk ident ≡ true → IdentFits ident → Stands s at (identBytes ident)
-      → readIdent s at (kindOf ident) (eqb (identBit ident) 1) ≡ IdentRead.Got ident (at + length (identBytes ident))
-  unfolding readIdent readCan canIdent readLin linIdent readFlexray flexrayIdent
-  ident-back (Ident.Can key) ok h w = simp (back32 key h w, and-l (canZero key) (canRange key) ok, and-r (canZero key) (canRange key) ok)
-  ident-back (Ident.Lin pid) ok h w = simp (back8 w, ok)
-  ident-back (Ident.FlexRay channels slot cycle) ok h w =
+  ident-back : (ident : Ident) (set : ℕ) → setFor ident set ≡ true → identOk ident ≡ true → IdentFits ident → Stands s at (identBytes ident)
+      → readIdent s at (kindOf ident) (eqb (identBit ident) 1) (aloneIn set) ≡ IdentRead.Got ident (at + length (identBytes ident))
+  unfolding readIdent readCan canIdent readLin linIdent readFlexray flexrayIdent frameIdent errorIdent
+  ident-back (Ident.Can key) set e ok h w = simp (back32 key h w, and-l (canZero key) (canRange key) ok, and-r (canZero key) (canRange key) ok)
+  ident-back (Ident.Lin pid) set e ok h w = simp (back8 w, ok)
+  ident-back (Ident.FlexRay channels slot cycle) set e ok h w =
       let r = flexray-in channels slot cycle ok in
       let f : ℕ = channels * 64 + 8 + slot / 256 in
       let m : f / 8 % 8 ≡ 1 = omega arith in
@@ -134,7 +134,14 @@ module _ {s : List ℕ} {at : ℕ} where
         l,
         ok,
       )
-  ident-back (Ident.Bare k) ok h w = simp add-zero
+  ident-back (Ident.FlexRayError channels) set e ok h w =
+      let r = channels-in channels ok in
+      let f : ℕ = channels * 64 in
+      let m : f / 8 % 8 ≡ 0 = omega arith in
+      let c : f / 64 ≡ channels = omega arith in
+      let l : f % 8 * 256 + 0 ≡ 0 = omega arith in
+      simp (part-at w, byte-back w, byte-back (right (f ∷ []) (0 ∷ 0 ∷ []) w), byte-back (right (f ∷ 0 ∷ []) (0 ∷ []) w), m, c, l, e, ok)
+  ident-back (Ident.Bare k) set e ok h w = simp add-zero
 
   load-back : (most : ℕ) (carries : Bool) (pl : List ℕ) → loadOk carries most (length pl) ≡ true → Stands s at (loadBytes carries pl)
       → readLoad s at most carries ≡ LoadRead.Got (at + bit carries) (length pl) (at + length (loadBytes carries pl))
@@ -171,6 +178,7 @@ ident-small : (ident : Ident) → identBit ident < 2
 ident-small (Ident.Can key) = omega arith
 ident-small (Ident.Lin pid) = omega arith
 ident-small (Ident.FlexRay channels slot cycle) = omega arith
+ident-small (Ident.FlexRayError channels) = omega arith
 ident-small (Ident.Bare k) = omega arith
 
 bit-small : (b : Bool) → bit b < 2
@@ -237,14 +245,14 @@ item-back s at e v w =
     let r = rest-there s at it pl w in
     simp (
       back16 (it .offset .0) (v .offset) (offset-there s at it pl w),
-      flags-back kind (x * 4 + y * 2 + z) (ok-set it (length pl) (v .ok)) (left (flagsOf it ∷ []) (it .network ∷ []) r),
+      flags-back kind (x * 4 + y * 2 + z) (set-known (it .ident) (x * 4 + y * 2 + z) (ok-set it (length pl) (v .ok))) (left (flagsOf it ∷ []) (it .network ∷ []) r),
       n3,
       back8 (move (right (flagsOf it ∷ []) (it .network ∷ []) r) n3),
       n4,
       first-bit x y z hx hy hz,
       state-back kind (it .state) (ok-state it (length pl) (v .ok)) (state-there s at it pl w),
       second-bit x y z hx hy hz,
-      ident-back (it .ident) (ok-ident it (length pl) (v .ok)) (v .ident) (ident-there s at it pl w),
+      ident-back (it .ident) (x * 4 + y * 2 + z) (ok-set it (length pl) (v .ok)) (ok-ident it (length pl) (v .ok)) (v .ident) (ident-there s at it pl w),
       third-bit x y z hx hy hz,
       bit-back (it .carries),
       load-back (mostOf (it .ident)) (it .carries) pl (ok-load it (length pl) (v .ok)) (load-there s at it pl w),
@@ -272,6 +280,7 @@ ident-bytes (Ident.Lin pid) ok h = (h, tt)
 ident-bytes (Ident.FlexRay channels slot cycle) ok h =
     let r = flexray-in channels slot cycle ok in
     (omega arith, (omega arith, (omega arith, tt)))
+ident-bytes (Ident.FlexRayError channels) ok h = let r = channels-in channels ok in (omega arith, (omega arith, (omega arith, tt)))
 ident-bytes (Ident.Bare k) ok h = tt
 
 load-bytes : (carries : Bool) (pl : List ℕ) → length pl ≤ 254 → Bytes pl → Bytes (loadBytes carries pl)

@@ -14,6 +14,7 @@ use Rattle.codec.proofs.ident.can_zero.Reads as can-zero
 use Rattle.codec.proofs.ident.can_range.Reads as can-range
 use Rattle.codec.proofs.ident.can_fd.Reads as can-fd
 use Rattle.codec.proofs.ident.pid_ok.Reads as pid-ok
+use Rattle.codec.proofs.ident.channels_ok.Reads as channels-ok
 use Rattle.codec.proofs.ident.flexray_range.Reads as flexray-range
 use Rattle.codec.proofs.ident.ident_ok.Reads as ident-ok
 use Rattle.codec.proofs.item.set_ok.Reads as set-ok
@@ -79,6 +80,9 @@ can-fd-unique κs a r r′ x x′ p q = p ∙ sym q
 
 pub pid-ok-unique : (κs : _) (a : _) (r r′ : _) (x x′ : _) → pid-ok.Post κs a r x → pid-ok.Post κs a r′ x′ → r ≡ r′
 pid-ok-unique κs a r r′ x x′ p q = p ∙ sym q
+
+pub channels-ok-unique : (κs : _) (a : _) (r r′ : _) (x x′ : _) → channels-ok.Post κs a r x → channels-ok.Post κs a r′ x′ → r ≡ r′
+channels-ok-unique κs a r r′ x x′ p q = p ∙ sym q
 
 pub flexray-range-unique : (κs : _) (a : _) (r r′ : _) (x x′ : _) → flexray-range.Post κs a r x → flexray-range.Post κs a r′ x′ → r ≡ r′
 flexray-range-unique κs a r r′ x x′ p q = p ∙ sym q

@@ -1,12 +1,12 @@
 -- Worked examples on bytes. Assumes nothing.
 use Prim.Native.Nat.{ℕ}
 use mathlib.Core.Path.{_≡_, refl}
-use mathlib.Core.Bool.{true}
+use mathlib.Core.Bool.{true, false}
 use mathlib.Core.List.{List, [], _∷_, map}
 use Rattle.codec.specs.Number.{word, fits, get8Of, get16Of, get32Of, partOf}
 use Rattle.codec.specs.Ident.{kindIn, canZero, canRange, canFd, evenParity, oddParity, pidOk, flexrayRange, identBytes}
 use Rattle.codec.specs.Item.{encode}
-use Rattle.codec.specs.Field.{readFlags, readState, canIdent, flexrayIdent, readCan, readLin, linIdent, readFlexray, readIdent, readLoad, readItem, bytesAt}
+use Rattle.codec.specs.Field.{readFlags, readState, canIdent, flexrayIdent, readCan, readLin, linIdent, readFlexray, frameIdent, errorIdent, readIdent, readLoad, readItem, bytesAt}
 use Rattle.codec.specs.Header.{readHeader}
 use Rattle.codec.specs.Time.{ns, elapsed, ticksOf, recoveredOf}
 use Rattle.codec.proofs.PidLaws.{pidOf}
@@ -61,20 +61,40 @@ written = refl
 flexray : identBytes (Ident.FlexRay 3 1027 63) ≡ 0xcc ∷ 0x03 ∷ 0x3f ∷ []
 flexray = refl
 
-flexray-back : readIdent (0xcc ∷ 0x03 ∷ 0x3f ∷ []) 0 Kind.FlexRay true ≡ IdentRead.Got (Ident.FlexRay 3 1027 63) 3
-unfolding readIdent readFlexray flexrayIdent partOf fits flexrayRange
+flexray-back : readIdent (0xcc ∷ 0x03 ∷ 0x3f ∷ []) 0 Kind.FlexRay true false ≡ IdentRead.Got (Ident.FlexRay 3 1027 63) 3
+unfolding readIdent readFlexray flexrayIdent frameIdent partOf fits flexrayRange
 flexray-back = refl
+
+-- an error without a frame on both channels, there and back with state and id alone; with a payload; with a slot or a cycle
+error : identBytes (Ident.FlexRayError 3) ≡ 0xc0 ∷ 0x00 ∷ 0x00 ∷ []
+error = refl
+
+error-back : readIdent (0xc0 ∷ 0x00 ∷ 0x00 ∷ []) 0 Kind.FlexRay true true ≡ IdentRead.Got (Ident.FlexRayError 3) 3
+unfolding readIdent readFlexray flexrayIdent errorIdent partOf fits
+error-back = refl
+
+error-loaded : readIdent (0xc0 ∷ 0x00 ∷ 0x00 ∷ []) 0 Kind.FlexRay true false ≡ IdentRead.Refused Refusal.Reserved
+unfolding readIdent readFlexray flexrayIdent partOf fits
+error-loaded = refl
+
+error-slotted : readIdent (0xc1 ∷ 0x00 ∷ 0x00 ∷ []) 0 Kind.FlexRay true true ≡ IdentRead.Refused Refusal.Range
+unfolding readIdent readFlexray flexrayIdent errorIdent partOf fits
+error-slotted = refl
+
+error-cycled : readIdent (0xc0 ∷ 0x00 ∷ 0x01 ∷ []) 0 Kind.FlexRay true true ≡ IdentRead.Refused Refusal.Range
+unfolding readIdent readFlexray flexrayIdent errorIdent partOf fits
+error-cycled = refl
 
 -- the PIDs of ids 0, 1, 2, 3C, 3D and 3F hexadecimal
 pids : map pidOf (0x00 ∷ 0x01 ∷ 0x02 ∷ 0x3c ∷ 0x3d ∷ 0x3f ∷ []) ≡ 0x80 ∷ 0xc1 ∷ 0x42 ∷ 0x3c ∷ 0x7d ∷ 0xbf ∷ []
 pids = refl
 
 -- a LIN id read: the right PID of id 3D, and the same id with P0 fallen
-lin-back : readIdent (0x7d ∷ []) 0 Kind.Lin true ≡ IdentRead.Got (Ident.Lin 0x7d) 1
+lin-back : readIdent (0x7d ∷ []) 0 Kind.Lin true false ≡ IdentRead.Got (Ident.Lin 0x7d) 1
 unfolding readIdent readLin linIdent get8Of fits pidOk evenParity oddParity
 lin-back = refl
 
-lin-broken : readIdent (0x3d ∷ []) 0 Kind.Lin true ≡ IdentRead.Refused Refusal.Range
+lin-broken : readIdent (0x3d ∷ []) 0 Kind.Lin true false ≡ IdentRead.Refused Refusal.Range
 unfolding readIdent readLin linIdent get8Of fits pidOk evenParity oddParity
 lin-broken = refl
 

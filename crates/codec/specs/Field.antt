@@ -1,14 +1,14 @@
 -- What reading the fields of an item finds, left to right, missing bytes before a wrong value
 -- (docs/RULES.md, "Reading a frame").
 use Prim.Native.Nat.{ℕ, _+_, _*_, _/_, _%_}
-use mathlib.Core.Bool.{Bool}
+use mathlib.Core.Bool.{Bool, _&&_}
 use mathlib.Core.List.{List, []}
 use lib.ListN.{take, drop, getD}
 use lib.Dec.{ltb, eqb}
 use Rattle.codec.specs.Choice.{pick}
 use Rattle.codec.specs.Number.{fits, get8Of, get16Of, get32Of, partOf, open8, open16, open32, openPart}
-use Rattle.codec.specs.Ident.{kindIn, openKind, canZero, canRange, pidOk, flexrayRange, mostOf}
-use Rattle.codec.specs.Item.{setOk, stateOk}
+use Rattle.codec.specs.Ident.{kindIn, openKind, canZero, canRange, pidOk, channelsOk, flexrayRange, mostOf}
+use Rattle.codec.specs.Item.{setOk, aloneIn, stateOk}
 use Rattle.codec.specs.declared.refusal.Refusal.{Refusal}
 use Rattle.codec.specs.declared.refusal.Refusal.the-variants as Refusal
 use Rattle.codec.specs.declared.ident.Kind.{Kind}
@@ -97,28 +97,37 @@ linIdent pid next = pick (pidOk pid) (IdentRead.Got (Ident.Lin pid) next) (Ident
 unfoldable pub readLin : List ℕ → ℕ → IdentRead
 readLin s at = open8 (get8Of s at) linIdent (IdentRead.Refused Refusal.Missing)
 
--- 25 FlexRay bits 5 and 4 or a clear bit 3, then 29 channel, slot and cycle
-unfoldable pub flexrayIdent : ℕ → ℕ → ℕ → ℕ → IdentRead
-flexrayIdent front low cycle next =
-    pick (eqb (front / 8 % 8) 1)
-    (pick (flexrayRange (front / 64) (front % 8 * 256 + low) cycle)
-    (IdentRead.Got (Ident.FlexRay (front / 64) (front % 8 * 256 + low) cycle) next)
-    (IdentRead.Refused Refusal.Range))
-    (IdentRead.Refused Refusal.Reserved)
+-- 29 channel, slot and cycle of a FlexRay frame
+unfoldable pub frameIdent : ℕ → ℕ → ℕ → ℕ → IdentRead
+frameIdent channels slot cycle next =
+    pick (flexrayRange channels slot cycle) (IdentRead.Got (Ident.FlexRay channels slot cycle) next) (IdentRead.Refused Refusal.Range)
 
-unfoldable pub readFlexray : List ℕ → ℕ → IdentRead
-readFlexray s at =
+-- 29 channel of an error without a frame, and any slot or cycle
+unfoldable pub errorIdent : ℕ → ℕ → ℕ → ℕ → IdentRead
+errorIdent channels slot cycle next =
+    pick (channelsOk channels && eqb slot 0 && eqb cycle 0) (IdentRead.Got (Ident.FlexRayError channels) next) (IdentRead.Refused Refusal.Range)
+
+-- 25 FlexRay bits 5 and 4, or bit 3 clear where the flags are not state and id alone; bit 3 tells a frame, which has slot and
+-- cycle, from an error without one (SWS_Mirror_00159)
+unfoldable pub flexrayIdent : Bool → ℕ → ℕ → ℕ → ℕ → IdentRead
+flexrayIdent alone front low cycle next =
+    pick (eqb (front / 8 % 8) 1) (frameIdent (front / 64) (front % 8 * 256 + low) cycle next)
+    (pick (alone && eqb (front / 8 % 8) 0) (errorIdent (front / 64) (front % 8 * 256 + low) cycle next)
+    (IdentRead.Refused Refusal.Reserved))
+
+unfoldable pub readFlexray : List ℕ → ℕ → Bool → IdentRead
+readFlexray s at alone =
     openPart (partOf s at 3)
-    (λ next. flexrayIdent (getD s at 0) (getD s (at + 1) 0) (getD s (at + 2) 0) next)
+    (λ next. flexrayIdent alone (getD s at 0) (getD s (at + 1) 0) (getD s (at + 2) 0) next)
     (IdentRead.Refused Refusal.Missing)
 
-abbrev pub identAs : Kind → List ℕ → ℕ → IdentRead
-identAs Kind.Can s at = readCan s at
-identAs Kind.Lin s at = readLin s at
-identAs Kind.FlexRay s at = readFlexray s at
+abbrev pub identAs : Kind → List ℕ → ℕ → Bool → IdentRead
+identAs Kind.Can s at alone = readCan s at
+identAs Kind.Lin s at alone = readLin s at
+identAs Kind.FlexRay s at alone = readFlexray s at alone
 
-unfoldable pub readIdent : List ℕ → ℕ → Kind → Bool → IdentRead
-readIdent s at kind present = pick present (identAs kind s at) (IdentRead.Got (Ident.Bare kind) at)
+unfoldable pub readIdent : List ℕ → ℕ → Kind → Bool → Bool → IdentRead
+readIdent s at kind present alone = pick present (identAs kind s at alone) (IdentRead.Got (Ident.Bare kind) at)
 
 -- 27 payload length; an item without payload has an empty part
 unfoldable pub readLoad : List ℕ → ℕ → ℕ → Bool → LoadRead
@@ -137,7 +146,7 @@ readItem s at =
     openFlags (readFlags s a) (λ kind set b.
     open8 (get8Of s b) (λ network d.
     openState (readState s d kind (eqb (set / 4 % 2) 1)) (λ state e.
-    openIdent (readIdent s e kind (eqb (set / 2 % 2) 1)) (λ ident f.
+    openIdent (readIdent s e kind (eqb (set / 2 % 2) 1) (aloneIn set)) (λ ident f.
     openLoad (readLoad s f (mostOf ident) (eqb (set % 2) 1)) (λ start len next.
     ItemRead.Got
     (record { offset = record { 0 = ticks }; network = network; state = state; ident = ident; carries = eqb (set % 2) 1 })

@@ -33,6 +33,7 @@ abbrev pub kindOf : Ident → Kind
 kindOf (Ident.Can key) = Kind.Can
 kindOf (Ident.Lin pid) = Kind.Lin
 kindOf (Ident.FlexRay channels slot cycle) = Kind.FlexRay
+kindOf (Ident.FlexRayError channels) = Kind.FlexRay
 kindOf (Ident.Bare k) = k
 
 -- CAN key: bit 31 extended, bit 30 FD, bit 29 zero, then the id, at most 2,047 standard (SWS_Mirror_00098 to 00101)
@@ -61,41 +62,53 @@ oddParity pid = 1 - xorOf pid 1 3 4 5
 unfoldable pub pidOk : ℕ → Bool
 pidOk pid = eqb (pid / 2 ^ 6) (oddParity pid * 2 + evenParity pid)
 
--- channels A 1, B 2, both 3; slot 1 to 2,047; cycle 0 to 63 (SWS_Mirror_00105, 00107)
+-- channels A 1, B 2, both 3 (SWS_Mirror_00105)
+abbrev pub channelsOk : ℕ → Bool
+channelsOk channels = leb 1 channels && leb channels 3
+
+-- slot 1 to 2,047; cycle 0 to 63 (SWS_Mirror_00107)
 unfoldable pub flexrayRange : ℕ → ℕ → ℕ → Bool
-flexrayRange channels slot cycle = leb 1 channels && leb channels 3 && leb 1 slot && leb slot 2047 && leb cycle 63
+flexrayRange channels slot cycle = channelsOk channels && leb 1 slot && leb slot 2047 && leb cycle 63
 
 -- channel B in bit 7, A in bit 6, bits 5 and 4 zero, bit 3 one, slot bits 10 to 8; slot bits 7 to 0; cycle
 -- (table 7.8; SWS_Mirror_00105 to 00107, 00159)
 abbrev pub flexrayBytes : ℕ → ℕ → ℕ → List ℕ
 flexrayBytes channels slot cycle = (channels * 64 + 8 + slot / 256) ∷ (slot % 256) ∷ cycle ∷ []
 
+-- an error of the channels without a frame: bit 3 zero, and no slot and no cycle, which are zero (SWS_Mirror_00091 to 00093, 00159)
+abbrev pub errorBytes : ℕ → List ℕ
+errorBytes channels = (channels * 64) ∷ 0 ∷ 0 ∷ []
+
 -- four bytes for CAN, one for LIN, three for FlexRay (SWS_Mirror_00097, 00102, 00104)
 abbrev pub identBytes : Ident → List ℕ
 identBytes (Ident.Can key) = be 4 key
 identBytes (Ident.Lin pid) = pid ∷ []
 identBytes (Ident.FlexRay channels slot cycle) = flexrayBytes channels slot cycle
+identBytes (Ident.FlexRayError channels) = errorBytes channels
 identBytes (Ident.Bare k) = []
 
 abbrev pub identBit : Ident → ℕ
 identBit (Ident.Can key) = 1
 identBit (Ident.Lin pid) = 1
 identBit (Ident.FlexRay channels slot cycle) = 1
+identBit (Ident.FlexRayError channels) = 1
 identBit (Ident.Bare k) = 0
 
 abbrev pub identOk : Ident → Bool
 identOk (Ident.Can key) = canZero key && canRange key
 identOk (Ident.Lin pid) = pidOk pid
 identOk (Ident.FlexRay channels slot cycle) = flexrayRange channels slot cycle
+identOk (Ident.FlexRayError channels) = channelsOk channels
 identOk (Ident.Bare k) = true
 
 abbrev pub canMost : Bool → ℕ
 canMost true = 64
 canMost false = 8
 
--- payload at most 8 for CAN 2.0 and LIN, 64 for CAN FD, 254 for FlexRay
+-- payload at most 8 for CAN 2.0 and LIN, 64 for CAN FD, 254 for FlexRay; an error without a frame has none
 abbrev pub mostOf : Ident → ℕ
 mostOf (Ident.Can key) = canMost (canFd key)
 mostOf (Ident.Lin pid) = 8
 mostOf (Ident.FlexRay channels slot cycle) = 254
+mostOf (Ident.FlexRayError channels) = 0
 mostOf (Ident.Bare k) = 0

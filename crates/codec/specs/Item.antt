@@ -10,6 +10,7 @@ use Rattle.codec.specs.Ident.{networkType, kindOf, identBytes, identBit,
 use Rattle.codec.specs.declared.ident.Kind.{Kind}
 use Rattle.codec.specs.declared.ident.Kind.the-variants as Kind
 use Rattle.codec.specs.declared.ident.Ident.{Ident}
+use Rattle.codec.specs.declared.ident.Ident.the-variants as Ident
 use Rattle.codec.specs.declared.item.State.{State}
 use Rattle.codec.specs.declared.item.State.the-variants as State
 use Rattle.codec.specs.declared.item.Item.{Item}
@@ -29,6 +30,18 @@ setOf state ident carries = stateBit state * 4 + identBit ident * 2 + bit carrie
 -- id and payload; state, id and payload; state and id; state alone
 abbrev pub setOk : ℕ → Bool
 setOk set = eqb set 3 || eqb set 7 || eqb set 6 || eqb set 4
+
+-- state and id alone
+abbrev pub aloneIn : ℕ → Bool
+aloneIn set = eqb set 6
+
+-- any of the four with each id, but state and id alone with an error without a frame (SWS_Mirror_00091 to 00093)
+abbrev pub setFor : Ident → ℕ → Bool
+setFor (Ident.Can key) set = setOk set
+setFor (Ident.Lin pid) set = setOk set
+setFor (Ident.FlexRay channels slot cycle) set = setOk set
+setFor (Ident.FlexRayError channels) set = aloneIn set
+setFor (Ident.Bare k) set = setOk set
 
 -- bits 5 and 4 of a LIN state are zero (SWS_Mirror_00084); other state bits are not judged
 unfoldable pub linZero : ℕ → Bool
@@ -51,7 +64,7 @@ loadOk false most n = eqb n 0
 -- an item that may stand in a frame, with a payload of n bytes
 unfoldable pub itemOk : Item → ℕ → Bool
 itemOk it n =
-    setOk (setOf (it .state) (it .ident) (it .carries)) && stateOk (kindOf (it .ident)) (it .state) && identOk (it .ident)
+    setFor (it .ident) (setOf (it .state) (it .ident) (it .carries)) && stateOk (kindOf (it .ident)) (it .state) && identOk (it .ident)
     && loadOk (it .carries) (mostOf (it .ident)) n
 
 -- state-present in bit 7, id-present in bit 6, payload-present in bit 5, network type in bits 4 to 0

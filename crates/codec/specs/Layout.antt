@@ -37,6 +37,7 @@ abbrev pub IdentFits : Ident → Type 0
 IdentFits (Ident.Can key) = key < 2 ^ 32
 IdentFits (Ident.Lin pid) = pid < 256
 IdentFits (Ident.FlexRay channels slot cycle) = Unit
+IdentFits (Ident.FlexRayError channels) = Unit
 IdentFits (Ident.Bare k) = Unit
 
 -- an item that may stand in a frame

@@ -11,7 +11,7 @@ use crate::number::Read32;
 use crate::refusal::Refusal;
 use crate::time::Ticks;
 ghost use mathlib.Core.Path.{_≡_};
-ghost use Rattle.codec.specs.Field.{readFlags, readState, canIdent, linIdent, flexrayIdent, readCan, readLin, readFlexray, readIdent, readLoad, readItem, bytesAt, whyFlags, whyState, whyIdent, whyLoad};
+ghost use Rattle.codec.specs.Field.{readFlags, readState, canIdent, linIdent, frameIdent, errorIdent, flexrayIdent, readCan, readLin, readFlexray, readIdent, readLoad, readItem, bytesAt, whyFlags, whyState, whyIdent, whyLoad};
 
 pub enum FlagsRead {
     Got(Kind, u8, usize),
@@ -120,16 +120,9 @@ fn read_lin(s: &[u8], at: usize) -> IdentRead
     lin_ident(pid, next)
 }
 
-// Bits 5 and 4 of the first byte are zero and bit 3 is one; then channel, slot and cycle are judged.
-fn flexray_ident(front: u8, low: u8, cycle: u8, next: usize) -> IdentRead
-    ensures { λ r. ⌜ r ≡ flexrayIdent front low cycle next ⌝ }
+fn frame_ident(channels: u8, slot: u16, cycle: u8, next: usize) -> IdentRead
+    ensures { λ r. ⌜ r ≡ frameIdent channels slot cycle next ⌝ }
 {
-    let marks = front >> 3 & 7;
-    if marks != 1 {
-        return IdentRead::Refused(Refusal::Reserved);
-    }
-    let channels = front >> 6;
-    let slot = ((front & 7) as u16) << 8 | low as u16;
     if crate::ident::flexray_range(channels, slot, cycle) {
         IdentRead::Got(
             Ident::FlexRay {
@@ -144,17 +137,45 @@ fn flexray_ident(front: u8, low: u8, cycle: u8, next: usize) -> IdentRead
     }
 }
 
-fn read_flexray(s: &[u8], at: usize) -> IdentRead
-    ensures { λ r. ⌜ r ≡ readFlexray (now (s .entry)) at ⌝ }
+fn error_ident(channels: u8, slot: u16, cycle: u8, next: usize) -> IdentRead
+    ensures { λ r. ⌜ r ≡ errorIdent channels slot cycle next ⌝ }
+{
+    if crate::ident::channels_ok(channels as u32) & (slot == 0) & (cycle == 0) {
+        IdentRead::Got(Ident::FlexRayError(channels), next)
+    } else {
+        IdentRead::Refused(Refusal::Range)
+    }
+}
+
+// Bits 5 and 4 of the first byte are zero; bit 3 is one, or zero for an error without a frame, which is told by state
+// and id alone.
+fn flexray_ident(alone: bool, front: u8, low: u8, cycle: u8, next: usize) -> IdentRead
+    ensures { λ r. ⌜ r ≡ flexrayIdent alone front low cycle next ⌝ }
+{
+    let marks = front >> 3 & 7;
+    let channels = front >> 6;
+    let slot = ((front & 7) as u16) << 8 | low as u16;
+    if marks == 1 {
+        return frame_ident(channels, slot, cycle, next);
+    }
+    if alone & (marks == 0) {
+        return error_ident(channels, slot, cycle, next);
+    }
+    IdentRead::Refused(Refusal::Reserved)
+}
+
+fn read_flexray(s: &[u8], at: usize, alone: bool) -> IdentRead
+    ensures { λ r. ⌜ r ≡ readFlexray (now (s .entry)) at alone ⌝ }
 {
     let Part::Got(next) = crate::number::get_part(s, at, 3) else {
         return IdentRead::Refused(Refusal::Missing);
     };
-    flexray_ident(s[at], s[at + 1], s[at + 2], next)
+    flexray_ident(alone, s[at], s[at + 1], s[at + 2], next)
 }
 
-pub fn read_ident(s: &[u8], at: usize, kind: Kind, present: bool) -> IdentRead
-    ensures { λ r. ⌜ r ≡ readIdent (now (s .entry)) at kind present ⌝ }
+// Alone: the item has state and id, and nothing else.
+pub fn read_ident(s: &[u8], at: usize, kind: Kind, present: bool, alone: bool) -> IdentRead
+    ensures { λ r. ⌜ r ≡ readIdent (now (s .entry)) at kind present alone ⌝ }
 {
     if !present {
         return IdentRead::Got(Ident::Bare(kind), at);
@@ -162,7 +183,7 @@ pub fn read_ident(s: &[u8], at: usize, kind: Kind, present: bool) -> IdentRead
     match kind {
         Kind::Can => read_can(s, at),
         Kind::Lin => read_lin(s, at),
-        Kind::FlexRay => read_flexray(s, at),
+        Kind::FlexRay => read_flexray(s, at, alone),
     }
 }
 
@@ -238,7 +259,7 @@ pub fn read_item(s: &[u8], at: usize) -> ItemRead
     let StateRead::Got(state, e) = shown else {
         return why_state(shown);
     };
-    let id = read_ident(s, e, kind, set >> 1 & 1 == 1);
+    let id = read_ident(s, e, kind, set >> 1 & 1 == 1, set == 6);
     let IdentRead::Got(ident, f) = id else {
         return why_ident(id);
     };

@@ -1,6 +1,6 @@
 // The frame ids of the three buses, and the network types.
 ghost use mathlib.Core.Path.{_≡_};
-ghost use Rattle.codec.specs.Ident.{networkType, kindIn, kindOf, canZero, canRange, canFd, pidOk, flexrayRange, identOk, canMost, mostOf};
+ghost use Rattle.codec.specs.Ident.{networkType, kindIn, kindOf, canZero, canRange, canFd, pidOk, channelsOk, flexrayRange, identOk, canMost, mostOf};
 ghost use Rattle.codec.specs.Number.{Below};
 
 pub enum Kind {
@@ -14,6 +14,8 @@ pub enum Ident {
     Can(u32),
     Lin(u8),
     FlexRay { channels: u8, slot: u16, cycle: u8 },
+    // An error on these channels that belongs to no frame: it has no slot and no cycle.
+    FlexRayError(u8),
     Bare(Kind),
 }
 
@@ -58,6 +60,7 @@ pub fn kind_of(id: Ident) -> Kind
             slot: _,
             cycle: _,
         } => Kind::FlexRay,
+        Ident::FlexRayError(_) => Kind::FlexRay,
         Ident::Bare(k) => k,
     }
 }
@@ -91,6 +94,13 @@ pub fn pid_ok(pid: u32) -> bool
     pid >> 6 == p1 << 1 | p0
 }
 
+// Channel A, B or both.
+pub fn channels_ok(channels: u32) -> bool
+    ensures { λ r. ⌜ r ≡ channelsOk channels ⌝ }
+{
+    (1 <= channels) & (channels <= 3)
+}
+
 pub fn flexray_range(channels: u8, slot: u16, cycle: u8) -> bool
     ensures { λ r. ⌜ r ≡ flexrayRange channels slot cycle ⌝ }
 {
@@ -108,6 +118,7 @@ pub fn ident_ok(id: Ident) -> bool
             slot,
             cycle,
         } => flexray_range(channels, slot, cycle),
+        Ident::FlexRayError(channels) => channels_ok(channels as u32),
         Ident::Bare(_) => true,
     }
 }
@@ -130,6 +141,7 @@ pub fn most_of(id: Ident) -> usize
             slot: _,
             cycle: _,
         } => 254,
+        Ident::FlexRayError(_) => 0,
         Ident::Bare(_) => 0,
     }
 }

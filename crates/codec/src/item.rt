@@ -11,7 +11,7 @@ ghost use lib.ListN.{length};
 ghost use Rattle.codec.specs.Number.{be, Wrote, Laid, Sized, Below};
 ghost use Rattle.codec.specs.Ident.{identBytes, identBit, identOk};
 ghost use mathlib.Core.Bool.{true};
-ghost use Rattle.codec.specs.Item.{stateBytes, stateBit, linZero, shownOk, stateOk, setOk, setOf, loadOk, loadBytes, loadLength, flagsOf, encode, itemOk, itemLength};
+ghost use Rattle.codec.specs.Item.{stateBytes, stateBit, linZero, shownOk, stateOk, setOk, setFor, setOf, loadOk, loadBytes, loadLength, flagsOf, encode, itemOk, itemLength};
 
 // The state byte that an item shows.
 pub enum State {
@@ -47,6 +47,7 @@ fn ident_bit(ident: Ident) -> u8
             slot: _,
             cycle: _,
         } => 1,
+        Ident::FlexRayError(_) => 1,
         Ident::Bare(_) => 0,
     }
 }
@@ -62,6 +63,24 @@ pub fn set_ok(set: u8) -> bool
     ensures { λ r. ⌜ r ≡ setOk set ⌝ }
 {
     (set == 3) | (set == 7) | (set == 6) | (set == 4)
+}
+
+// An error without a frame is told by state and id alone.
+fn set_for(ident: Ident, set: u8) -> bool
+    ensures { λ r. ⌜ r ≡ setFor ident set ⌝ }
+{
+    let known = set_ok(set);
+    match ident {
+        Ident::Can(_) => known,
+        Ident::Lin(_) => known,
+        Ident::FlexRay {
+            channels: _,
+            slot: _,
+            cycle: _,
+        } => known,
+        Ident::FlexRayError(_) => set == 6,
+        Ident::Bare(_) => known,
+    }
 }
 
 // Bits 5 and 4 of a LIN state byte are zero.
@@ -96,14 +115,14 @@ fn load_ok(carries: bool, most: usize, n: usize) -> bool
     if carries { n <= most } else { n == 0 }
 }
 
-// One of the four flag sets, its reserved bits right, its id in range and its payload no longer than allowed.
+// A flag set that goes with the id, reserved bits right, the id in range and the payload no longer than allowed.
 pub fn item_ok(item: Item, n: usize) -> bool
     ensures { λ r. ⌜ r ≡ itemOk item n ⌝ }
 {
     let state = item.state;
     let ident = item.ident;
     let carries = item.carries;
-    let set = set_ok(set_of(state, ident, carries));
+    let set = set_for(ident, set_of(state, ident, carries));
     let bits = state_ok(crate::ident::kind_of(ident), state);
     let id = crate::ident::ident_ok(ident);
     let load = load_ok(carries, crate::ident::most_of(ident), n);
@@ -130,6 +149,7 @@ fn ident_len(ident: Ident) -> usize
             slot: _,
             cycle: _,
         } => 3,
+        Ident::FlexRayError(_) => 3,
         Ident::Bare(_) => 0,
     }
 }
@@ -193,6 +213,13 @@ fn flexray_front(channels: u8, slot: u16) -> u8
     channels << 6 | 8 | (slot >> 8) as u8
 }
 
+fn error_front(channels: u8) -> u8
+    requires { ⌜ channels ≤ 3 ⌝ }
+    ensures { λ r. ⌜ r ≡ channels * 64 ⌝ }
+{
+    channels << 6
+}
+
 fn lay_ident(out: &mut [u8], at: usize, ident: Ident) -> usize
     requires { ⌜ at + length (identBytes ident) ≤ length (now out) ⌝ }
     requires { ⌜ identOk ident ≡ true ⌝ }
@@ -215,6 +242,12 @@ fn lay_ident(out: &mut [u8], at: usize, ident: Ident) -> usize
             out[at] = flexray_front(channels, slot);
             out[at + 1] = crate::number::low8(slot as u64);
             out[at + 2] = cycle;
+            at + 3
+        }
+        Ident::FlexRayError(channels) => {
+            out[at] = error_front(channels);
+            out[at + 1] = 0;
+            out[at + 2] = 0;
             at + 3
         }
         Ident::Bare(_) => at,

@@ -2,6 +2,7 @@
 pub mod Theorem
 pub mod Lossless
 pub mod Told
+pub mod Own
 pub mod Drain
 pub mod ResetLaws
 pub mod Again

@@ -1,5 +1,5 @@
 -- What each source has to say: the first half of the ledger (rules 4 to 6).
-use Prim.Native.Nat.{ℕ, _+_, _*_, _/_}
+use Prim.Native.Nat.{ℕ, _+_, _*_, _/_, _%_}
 use mathlib.Core.Bool.{Bool, true, false, not, _&&_, _||_}
 use mathlib.Core.List.{List, [], _∷_, _++_, map}
 use lib.ListN.{getD, set}
@@ -10,7 +10,7 @@ use Rattle.codec.specs.declared.ident.Kind.{Kind}
 use Rattle.codec.specs.declared.ident.Kind.the-variants as Kind
 use Rattle.codec.specs.declared.ident.Ident.{Ident}
 use Rattle.codec.specs.declared.ident.Ident.the-variants as Ident
-use Rattle.history.specs.Meaning.{Bound, none, errors, conflict, Meaning, starts, stops, updates, reports, ticks, takes, fails, switches, drops, nothing}
+use Rattle.history.specs.Meaning.{Bound, none, errors, conflict, aggregated, Meaning, starts, stops, updates, reports, ticks, takes, fails, switches, drops, nothing}
 
 -- something to be mirrored: an accepted report, or a state item that a tick calls for. `state` is the source's state byte
 -- without bit 7; `due` says that it is shown even where no loss is pending
@@ -100,28 +100,33 @@ updatedAccount byte a = record {
 }
 
 -- a state byte with the frame-bound bits written, and with them clear (rule 4): LIN's are the four low bits, which byte / 16 * 16
--- has not, FlexRay's is bit 0, which byte / 2 * 2 has not
+-- has not; a conflict's is bit 0, which byte / 2 * 2 has not; those of an error without a frame are bits 3 to 1, which
+-- byte / 16 * 16 + byte % 2 has not
 abbrev pub written : Bound → ℕ → ℕ
 written none byte = byte
 written (errors bits) byte = byte / 16 * 16 + bits
 written conflict byte = byte / 2 * 2 + 1
+written (aggregated bits) byte = byte / 16 * 16 + byte % 2 + bits
 
 abbrev pub cleared : Bound → ℕ → ℕ
 cleared none byte = byte
 cleared (errors bits) byte = byte / 16 * 16
 cleared conflict byte = byte / 2 * 2
+cleared (aggregated bits) byte = byte / 16 * 16 + byte % 2
 
--- an accepted LIN report or FlexRay conflict makes the byte known
+-- an accepted LIN report, FlexRay conflict or error makes the byte known
 abbrev pub informs : Bound → Bool
 informs none = false
 informs (errors bits) = true
 informs conflict = true
+informs (aggregated bits) = true
 
--- a LIN error that is repeated is never left out, and a conflict is always shown (rules 4 and 5)
+-- a LIN error that is repeated is never left out; a conflict and an error without a frame are always shown (rules 4 and 5)
 abbrev pub insists : Bound → Bool
 insists none = false
 insists (errors bits) = ltb 0 bits
 insists conflict = true
+insists (aggregated bits) = true
 
 -- known, and never shown or different from the last shown (rules 4 and 6)
 unfoldable pub differs : Bool → ℕ → Account → Bool

@@ -34,6 +34,7 @@ abbrev pub KeyFits : Ident → Type 0
 KeyFits (Ident.Can key) = key < 2 ^ 32
 KeyFits (Ident.Lin pid) = Unit
 KeyFits (Ident.FlexRay channels slot cycle) = Unit
+KeyFits (Ident.FlexRayError channels) = Unit
 KeyFits (Ident.Bare kind) = Unit
 
 abbrev pub Allowed : Meaning → Type 0

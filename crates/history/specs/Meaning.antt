@@ -9,11 +9,13 @@ use Rattle.codec.specs.declared.ident.Ident.the-variants as Ident
 use Rattle.mirror.specs.Call.{Call}
 use Rattle.mirror.specs.Call as Call
 
--- the frame-bound bits that a report writes: none; LIN's four error bits; FlexRay's conflict bit (rule 4)
+-- the frame-bound bits that a report writes: none; LIN's four error bits; FlexRay's conflict bit; the three bits of a FlexRay error
+-- without a frame, which is aggregated over the channels (rule 4)
 pub data Bound : Type 0 where
   none : Bound
   errors : ℕ → Bound
   conflict : Bound
+  aggregated : ℕ → Bound
 
 -- a source is started or stopped; its state byte is updated; it reports, with its frame-bound bits, a time, an id, whether a
 -- payload is carried, and the payload; the clock ticks; a frame is taken; the one last taken has failed; F, Q and D are new; all is
@@ -35,8 +37,8 @@ pub data Meaning : Type 0 where
 unfoldable pub canState : Bool → Bool → Bool → ℕ → ℕ
 canState online passive busOff counter = pick online (64 + bit passive * 32 + bit busOff * 16 + min (counter / 8) 15) 0
 
--- a LIN update gives online only, a FlexRay update online and bits 5 to 0; a frame report carries id and payload, a conflict id and
--- state (rule 5); filters are no matter of the ledger: whether a report passed them, its answer tells
+-- a LIN update gives online only, a FlexRay update online and bits 5 and 4; a frame report carries id and payload, a conflict and an
+-- error without a frame id and state (rule 5); filters are no matter of the ledger: whether a report passed them, its answer tells
 abbrev pub meaning : Call → Meaning
 meaning (Call.start source) = starts source
 meaning (Call.stop source) = stops source
@@ -47,6 +49,7 @@ meaning (Call.can source t key payload) = reports source none t (Ident.Can key) 
 meaning (Call.lin source t pid bits payload) = reports source (errors bits) t (Ident.Lin pid) true payload
 meaning (Call.flexray source t channels slot cycle payload) = reports source none t (Ident.FlexRay channels slot cycle) true payload
 meaning (Call.conflict source t channels slot cycle) = reports source conflict t (Ident.FlexRay channels slot cycle) false []
+meaning (Call.flexray-error source t channels bits) = reports source (aggregated bits) t (Ident.FlexRayError channels) false []
 meaning (Call.tick t) = ticks t
 meaning (Call.take out) = takes
 meaning Call.failed = fails

@@ -195,6 +195,7 @@ kept e (Call.can source t key payload) s = report-sound e _ payload s
 kept e (Call.lin source t pid errors payload) s = report-sound e _ payload s
 kept e (Call.flexray source t channels slot cycle payload) s = report-sound e _ payload s
 kept e (Call.conflict source t channels slot cycle) s = report-sound e _ [] s
+kept e (Call.flexray-error source t channels bits) s = report-sound e _ [] s
 kept e (Call.can-state source online passive busOff counter) s = update-sound e _ s
 kept e (Call.lin-state source online) s = update-sound e _ s
 kept e (Call.flexray-state source online bits) s = update-sound e _ s

@@ -1,30 +1,34 @@
 -- Demand 1: a refused call changes neither the engine nor one byte of a lent buffer, and the numbers beside it are 0; 19 is
 -- answered exactly where the soundness rule is broken.
 use Prim.Native.Nat.{ℕ, _<_}
-use mathlib.Core.Path.{_≡_, refl, ap}
+use mathlib.Core.Path.{_≡_, refl, sym, ap, _∙_}
 use mathlib.Core.Bool.{Bool, true, false, not, _&&_}
 use mathlib.Core.List.{List, []}
 use native.Mathlib.Omega.{arith}
 use lib.ListN.{length, getD}
 use lib.Dec.{leb, ltb, eqb}
-use borrow.Author.Tests.{ne-eqb}
+use borrow.Author.Tests.{eqb-true, ne-eqb}
 use Rattle.codec.specs.Choice.{pick}
 use Rattle.codec.specs.Time.{timeOk}
-use Rattle.codec.specs.Ident.{kindOf, mostOf}
+use Rattle.codec.specs.Ident.{kindOf, mostOf, channelsOk}
+use Rattle.codec.specs.declared.time.Time.{Time}
 use Rattle.codec.specs.declared.time.Nanos.{Nanos}
+use Rattle.codec.specs.declared.ident.Kind.the-variants as Kind
 use Rattle.mirror.proofs.Kept.{metered}
 use Rattle.framer.specs.Meter.{soundMeter, limitsOk}
 use Rattle.framer.specs.Queue.{lengthAt}
 use Rattle.framer.specs.Framer.{takeOf, outOf}
 use Rattle.framer.specs.declared.framer.Framer.{Framer}
-use Rattle.bus.specs.Filter.{sameKind, isFree}
+use Rattle.framer.proofs.FramerLaws.{sounds}
+use Rattle.bus.specs.Filter.{sameKind, filtered, isFree}
 use Rattle.bus.specs.Source.{passes, freeAt, freePlace, addCause, addedFilter, removeCause}
-use Rattle.bus.specs.Report.{reportCause, earlyCause, lateCause, tooBig}
+use Rattle.bus.specs.Report.{errorBits, errorReport, reportCause, earlyCause, lateCause, tooBig}
 use Rattle.bus.specs.Update.{updateCause}
 use Rattle.bus.specs.declared.source.Source.{Source}
 use Rattle.bus.specs.declared.report.Report.{Report}
 use Rattle.bus.specs.declared.update.Update.{Update}
 use Rattle.bus.specs.declared.filter.Addition.{Addition}
+use Rattle.bus.proofs.BusLaws.{error-cause}
 use Rattle.mirror.specs.Engine.{soundOf, causeOf, answered, timed, sourceCause, sourceAt, withSource, askedOf, discardsOf, failuresOf}
 use Rattle.mirror.specs.Setup.{setupOf, switchOf, offlineOf, sourcesOk}
 use Rattle.mirror.specs.Source.{startOf, stopOf, updateOf, addOf, removeOf}
@@ -50,6 +54,7 @@ lent (Call.can source t key payload) = []
 lent (Call.lin source t pid errors payload) = []
 lent (Call.flexray source t channels slot cycle payload) = []
 lent (Call.conflict source t channels slot cycle) = []
+lent (Call.flexray-error source t channels bits) = []
 lent (Call.can-state source online passive busOff counter) = []
 lent (Call.lin-state source online) = []
 lent (Call.flexray-state source online bits) = []
@@ -134,6 +139,7 @@ refused-keeps e (Call.can source t key payload) n = record { engine = plainly e 
 refused-keeps e (Call.lin source t pid errors payload) n = record { engine = plainly e _ _ n; number = quiet e _ _ _ n; output = refl }
 refused-keeps e (Call.flexray source t channels slot cycle payload) n = record { engine = plainly e _ _ n; number = quiet e _ _ _ n; output = refl }
 refused-keeps e (Call.conflict source t channels slot cycle) n = record { engine = plainly e _ _ n; number = quiet e _ _ _ n; output = refl }
+refused-keeps e (Call.flexray-error source t channels bits) n = record { engine = plainly e _ _ n; number = quiet e _ _ _ n; output = refl }
 refused-keeps e (Call.can-state source online passive busOff counter) n = record { engine = plainly e _ _ n; number = refl; output = refl }
 refused-keeps e (Call.lin-state source online) n = record { engine = plainly e _ _ n; number = refl; output = refl }
 refused-keeps e (Call.flexray-state source online bits) n = record { engine = plainly e _ _ n; number = refl; output = refl }
@@ -180,7 +186,7 @@ early-below count s r n rest h =
 late-below : (f : ℕ) (s : Source) (r : Report) (n : ℕ) → lateCause f s r n < 19
 unfolding lateCause
 late-below f s r n =
-    below (not (passes (s .places) (r .ident))) 1 _ (omega arith) (below (tooBig f r n) 8 0 (omega arith) (omega arith))
+    below (filtered (r .ident) && not (passes (s .places) (r .ident))) 1 _ (omega arith) (below (tooBig f r n) 8 0 (omega arith) (omega arith))
 
 report-below : (count f : ℕ) (s : Source) (r : Report) (n : ℕ) → reportCause count f s r n < 19
 unfolding reportCause
@@ -249,6 +255,7 @@ broken e (Call.can source t key payload) s = plainly-19 e _ _ s
 broken e (Call.lin source t pid errors payload) s = plainly-19 e _ _ s
 broken e (Call.flexray source t channels slot cycle payload) s = plainly-19 e _ _ s
 broken e (Call.conflict source t channels slot cycle) s = plainly-19 e _ _ s
+broken e (Call.flexray-error source t channels bits) s = plainly-19 e _ _ s
 broken e (Call.can-state source online passive busOff counter) s = plainly-19 e _ _ s
 broken e (Call.lin-state source online) s = plainly-19 e _ _ s
 broken e (Call.flexray-state source online bits) s = plainly-19 e _ _ s
@@ -275,6 +282,7 @@ not-broken e (Call.can source t key payload) s = plainly-below e _ _ s (report-b
 not-broken e (Call.lin source t pid errors payload) s = plainly-below e _ _ s (report-below _ _ _ _ _)
 not-broken e (Call.flexray source t channels slot cycle payload) s = plainly-below e _ _ s (report-below _ _ _ _ _)
 not-broken e (Call.conflict source t channels slot cycle) s = plainly-below e _ _ s (report-below _ _ _ _ _)
+not-broken e (Call.flexray-error source t channels bits) s = plainly-below e _ _ s (report-below _ _ _ _ _)
 not-broken e (Call.can-state source online passive busOff counter) s = plainly-below e _ _ s (update-below _ _ _)
 not-broken e (Call.lin-state source online) s = plainly-below e _ _ s (update-below _ _ _)
 not-broken e (Call.flexray-state source online bits) s = plainly-below e _ _ s (update-below _ _ _)
@@ -289,3 +297,35 @@ not-broken e (Call.take out) s = taken-below e (length out) s
 not-broken e Call.failed s = plainly-below e _ _ s (below (e .framer .meter .out) 0 17 (omega arith) (omega arith))
 not-broken e Call.discards s = rw s (omega arith)
 not-broken e Call.failures s = rw s (omega arith)
+
+-- an error without a frame is answered with 19, 7, 2, 4, 3, 5 or 0, the first that holds, and with no other number
+answer-is : (e after : Engine) (cause : ℕ) → answered e cause after .answer ≡ cause
+unfolding answered
+answer-is e after cause = go (eqb cause 0) refl
+  where
+    go : (b : Bool) → eqb cause 0 ≡ b → answered e cause after .answer ≡ cause
+    go true q = rw q (sym (eqb-true cause 0 q))
+    go false q = rw q
+
+module _ (e : Engine) (source : ℕ) (t : Time) (channels bits : ℕ) where
+  abbrev pub errorCause : ℕ
+  errorCause =
+      pick (not (timeOk t)) 7
+      (pick (leb (e .count) source) 2
+      (pick (not (sameKind (sourceAt e source .kind) Kind.FlexRay)) 4
+      (pick (not (sourceAt e source .started)) 3
+      (pick (not (channelsOk channels && errorBits bits)) 5
+      0))))
+
+  error-caused : causeOf e (reportCause (e .count) (e .framer .meter .size) (sourceAt e source) (errorReport source t channels bits) 0) ≡ causeOf e errorCause
+  unfolding causeOf
+  error-caused = go (soundOf e) refl
+    where
+      go : (b : Bool) → soundOf e ≡ b
+          → pick (soundOf e) (reportCause (e .count) (e .framer .meter .size) (sourceAt e source) (errorReport source t channels bits) 0) 19 ≡ pick (soundOf e) errorCause 19
+      go true q = rw q (error-cause (e .count) (e .framer .meter .size) (sourceAt e source) source t channels bits (omega (arith, sounds (e .framer .meter) (metered e q) .size-least)))
+      go false q = rw q
+
+  pub error-answer : stepOf e (Call.flexray-error source t channels bits) .said .answer ≡ causeOf e errorCause
+  unfolding reportOf timed errorReport
+  error-answer = answer-is e _ _ ∙ error-caused

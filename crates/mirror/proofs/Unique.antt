@@ -7,6 +7,7 @@ use Rattle.mirror.proofs.engine.Engine.can.Reads as can
 use Rattle.mirror.proofs.engine.Engine.lin.Reads as lin
 use Rattle.mirror.proofs.engine.Engine.flexray.Reads as flexray
 use Rattle.mirror.proofs.engine.Engine.conflict.Reads as conflict
+use Rattle.mirror.proofs.engine.Engine.flexray_error.Reads as flexray-error
 use Rattle.mirror.proofs.engine.Engine.setup.Reads as setup
 use Rattle.mirror.proofs.engine.Engine.switch.Reads as switch
 use Rattle.mirror.proofs.engine.Engine.offline.Reads as offline
@@ -43,6 +44,9 @@ flexray-unique κs a r r′ x x′ p q = p ∙ sym q
 
 pub conflict-unique : (κs : _) (a : _) (r r′ : _) (x x′ : _) → conflict.Post κs a r x → conflict.Post κs a r′ x′ → r ≡ r′
 conflict-unique κs a r r′ x x′ p q = p ∙ sym q
+
+pub flexray-error-unique : (κs : _) (a : _) (r r′ : _) (x x′ : _) → flexray-error.Post κs a r x → flexray-error.Post κs a r′ x′ → r ≡ r′
+flexray-error-unique κs a r r′ x x′ p q = p ∙ sym q
 
 pub setup-unique : (κs : _) (a : _) (r r′ : _) (x x′ : _) → setup.Post κs a r x → setup.Post κs a r′ x′ → r ≡ r′
 setup-unique κs a r r′ x x′ p q = p ∙ sym q

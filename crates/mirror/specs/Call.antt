@@ -5,7 +5,7 @@ use mathlib.Core.Bool.{Bool}
 use mathlib.Core.List.{List, [], _∷_}
 use lib.ListN.{length}
 use Rattle.codec.specs.declared.time.Time.{Time}
-use Rattle.bus.specs.Report.{canReport, linReport, frameReport, conflictReport}
+use Rattle.bus.specs.Report.{canReport, linReport, frameReport, conflictReport, errorReport}
 use Rattle.bus.specs.Update.{canUpdate, linUpdate, flexrayUpdate}
 use Rattle.bus.specs.Filter.{canMask, canRange, linMask, linRange, slotsOf}
 use Rattle.mirror.specs.Engine.{discardsOf, failuresOf}
@@ -32,6 +32,7 @@ pub data Call : Type 0 where
   lin : ℕ → Time → ℕ → ℕ → List ℕ → Call
   flexray : ℕ → Time → ℕ → ℕ → ℕ → List ℕ → Call
   conflict : ℕ → Time → ℕ → ℕ → ℕ → Call
+  flexray-error : ℕ → Time → ℕ → ℕ → Call
   can-state : ℕ → Bool → Bool → Bool → ℕ → Call
   lin-state : ℕ → Bool → Call
   flexray-state : ℕ → Bool → ℕ → Call
@@ -80,6 +81,7 @@ stepOf e (can source t key payload) = clocked (reportOf e (canReport source t ke
 stepOf e (lin source t pid errors payload) = clocked (reportOf e (linReport source t pid errors) payload)
 stepOf e (flexray source t channels slot cycle payload) = clocked (reportOf e (frameReport source t channels slot cycle) payload)
 stepOf e (conflict source t channels slot cycle) = clocked (reportOf e (conflictReport source t channels slot cycle) [])
+stepOf e (flexray-error source t channels bits) = clocked (reportOf e (errorReport source t channels bits) [])
 stepOf e (can-state source online passive busOff counter) = plain (updateOf e (canUpdate source online passive busOff counter))
 stepOf e (lin-state source online) = plain (updateOf e (linUpdate source online))
 stepOf e (flexray-state source online bits) = plain (updateOf e (flexrayUpdate source online bits))

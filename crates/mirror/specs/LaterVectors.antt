@@ -1,8 +1,8 @@
--- The rows P10 to P12 (docs/RULES.md, "Worked examples"): a clock that steps back, and sends that failed.
+-- The rows P10 to P13 (docs/RULES.md, "Worked examples"): a clock that steps back, sends that failed, errors without a frame.
 use Prim.Native.Nat.{ℕ}
 use mathlib.Core.Bool.{true, false}
 use mathlib.Core.List.{List, [], _∷_}
-use Rattle.mirror.specs.Call.{setup, switch, offline, start, can, can-state, can-range, tick, take, failed, discards, failures}
+use Rattle.mirror.specs.Call.{setup, switch, offline, start, can, conflict, flexray-error, can-state, flexray-state, can-range, slots, tick, take, failed, discards, failures}
 use Rattle.mirror.specs.Row.{Row, at, room, ok, number, refused, taken}
 
 -- P10: the clock is set back by 4 ms: a tick tells it and closes nothing (a take says 13); a report that is refused does not tell
@@ -215,5 +215,64 @@ p12 = record {
       ∷ ok
       ∷ taken p12-third 0
       ∷ ok ∷ refused 17 ∷ number 0
+      ∷ [];
+}
+
+-- P13: errors on the channels of a FlexRay source that has no filter. The first makes the state known; bits 3 to 1 are clear again
+-- after it, and no update may set one. An error with none of them is shown, and shown again though nothing changed. Four that are
+-- out of range. A conflict, which needs a filter, sets bit 0 alone, and the error after it bits 3 to 1 alone. The next tick finds a
+-- source that was heard; the one after it tells that the bits are clear
+abbrev p13-frame : List ℕ
+p13-frame =
+    0x01 ∷ 0x00 ∷ 0x00 ∷ 0x00 ∷ 0x00 ∷ 0x00 ∷ 0x00 ∷ 0x10 ∷ 0x00 ∷ 0x00 ∷ 0x00 ∷ 0x00 ∷ 0x00 ∷ 0x2d
+    ∷ 0x00 ∷ 0x00 ∷ 0xc3 ∷ 0x07 ∷ 0x0a ∷ 0xc0 ∷ 0x00 ∷ 0x00
+    ∷ 0x00 ∷ 0x02 ∷ 0xc3 ∷ 0x07 ∷ 0x70 ∷ 0x40 ∷ 0x00 ∷ 0x00
+    ∷ 0x00 ∷ 0x02 ∷ 0xc3 ∷ 0x07 ∷ 0x70 ∷ 0x40 ∷ 0x00 ∷ 0x00
+    ∷ 0x00 ∷ 0x04 ∷ 0xc3 ∷ 0x07 ∷ 0x71 ∷ 0x88 ∷ 0x05 ∷ 0x01
+    ∷ 0x00 ∷ 0x05 ∷ 0xc3 ∷ 0x07 ∷ 0x7e ∷ 0x80 ∷ 0x00 ∷ 0x00
+    ∷ 0x00 ∷ 0x07 ∷ 0x83 ∷ 0x07 ∷ 0x70
+    ∷ []
+
+abbrev pub p13 : Row
+p13 = record {
+  calls =
+      setup 64 1 1 (3 ∷ 7 ∷ []) ∷ start 0
+      ∷ flexray-error 0 (at 16 0) 3 10
+      ∷ flexray-state 0 true 0x32
+      ∷ flexray-state 0 true 0x30
+      ∷ flexray-error 0 (at 16 20833) 1 0
+      ∷ flexray-error 0 (at 16 20833) 1 0
+      ∷ flexray-error 0 (at 16 30000) 0 8
+      ∷ flexray-error 0 (at 16 30000) 4 8
+      ∷ flexray-error 0 (at 16 30000) 3 1
+      ∷ flexray-error 0 (at 16 30000) 3 16
+      ∷ conflict 0 (at 16 40000) 2 5 1
+      ∷ slots 0 0 2047 0 63 1
+      ∷ conflict 0 (at 16 40000) 2 5 1
+      ∷ flexray-error 0 (at 16 50000) 2 14
+      ∷ tick (at 16 60000)
+      ∷ tick (at 16 70000)
+      ∷ tick (at 16 1000000)
+      ∷ take (room 59)
+      ∷ [];
+  said =
+      ok ∷ ok
+      ∷ ok
+      ∷ refused 5
+      ∷ ok
+      ∷ ok
+      ∷ ok
+      ∷ refused 5
+      ∷ refused 5
+      ∷ refused 5
+      ∷ refused 5
+      ∷ refused 1
+      ∷ number 0
+      ∷ ok
+      ∷ ok
+      ∷ ok
+      ∷ ok
+      ∷ ok
+      ∷ taken p13-frame 0
       ∷ [];
 }

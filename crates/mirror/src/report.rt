@@ -6,7 +6,7 @@ use codec::time::Nanos;
 use codec::time::Time;
 ghost use mathlib.Core.Path.{_≡_};
 ghost use mathlib.Core.List.{[]};
-ghost use Rattle.bus.specs.Report.{canReport, linReport, frameReport, conflictReport};
+ghost use Rattle.bus.specs.Report.{canReport, linReport, frameReport, conflictReport, errorReport};
 ghost use Rattle.mirror.specs.Report.{reportOf};
 
 impl Engine {
@@ -77,5 +77,11 @@ impl Engine {
             bus::report::conflict(source, time, channels, slot, cycle),
             b"",
         )
+    }
+
+    pub fn flexray_error(self, source: u64, time: Time, channels: u32, bits: u32) -> Timed
+        ensures { λ o. ⌜ o ≡ reportOf self (errorReport source time channels bits) [] ⌝ }
+    {
+        self.report(bus::report::error(source, time, channels, bits), b"")
     }
 }

@@ -33,7 +33,7 @@ use Rattle.reader.specs.declared.frame.Judged.{Judged}
 use Rattle.reader.specs.declared.frame.Judged.the-variants as Judged
 use Rattle.reader.specs.declared.copy.Rewritten.{Rewritten}
 use Rattle.reader.specs.declared.copy.Rewritten.the-variants as Rewritten
-use Rattle.reader.specs.Frame.{walkOf, itemsOf, Clean, judgeOf, laidOut, rewriteOf, rewrittenOf}
+use Rattle.reader.specs.Frame.{walkOf, itemsOf, Clean, judgedBy, openHeader, judgeOf, laidOut, rewriteOf, rewrittenOf}
 
 -- a clean walk meets no refusal
 pub not-bad : {G : Type 0} (s : List ℕ) (at : ℕ) {why : Refusal} → Clean s at → at < length s → readItem s at ≡ ItemRead.Refused why → G
@@ -98,18 +98,16 @@ over-after l xs ys k e h =
     let n : 0 + length xs ≡ k = omega arith in
     ap (λ (i : ℕ). over (over l 0 xs) i ys) (sym n) ∙ over-over l 0 xs ys (omega arith)
 
--- an accepted frame has its header and a clean walk
+-- what is judged to be a frame has its header and a clean walk, whatever walk it was
+pub judged-clean : (r : HeaderRead) (w : Verdict) {h : Header} → openHeader r (λ x. judgedBy x w) ≡ Judged.Frame h
+    → (r ≡ HeaderRead.Got h) × (w ≡ Verdict.Clean)
+judged-clean (HeaderRead.Got x) Verdict.Clean {h} e = let g : x ≡ h = cc in (ap HeaderRead.Got g, refl)
+judged-clean (HeaderRead.Got x) (Verdict.Refused why) e = never (cc)
+judged-clean (HeaderRead.Refused why) w e = never (cc)
+
 pub accepted : (s : List ℕ) {h : Header} → judgeOf s ≡ Judged.Frame h → (readHeader s ≡ HeaderRead.Got h) × (walkOf s 14 ≡ Verdict.Clean)
 unfolding judgeOf
-accepted s {h} e = go (readHeader s) refl (walkOf s 14) refl
-  where
-    go : (r : HeaderRead) → readHeader s ≡ r → (w : Verdict) → walkOf s 14 ≡ w → (readHeader s ≡ HeaderRead.Got h) × (walkOf s 14 ≡ Verdict.Clean)
-    go (HeaderRead.Got x) q Verdict.Clean v =
-        let f : Judged.Frame x ≡ Judged.Frame h = sym (simp (q, v)) ∙ e in
-        let g : x ≡ h = cc in
-        (q ∙ ap HeaderRead.Got g, v)
-    go (HeaderRead.Got x) q (Verdict.Refused why) v = let f : Judged.Refused why ≡ Judged.Frame h = sym (simp (q, v)) ∙ e in never (cc)
-    go (HeaderRead.Refused why) q w v = let f : Judged.Refused why ≡ Judged.Frame h = sym (simp q) ∙ e in never (cc)
+accepted s e = judged-clean (readHeader s) (walkOf s 14) e
 
 -- the items of a clean walk are as long as the bytes they were read from
 module _ (s : List ℕ) (b : Bytes s) where

@@ -1,4 +1,5 @@
 pub mod AlongLaws
 pub mod FrameLaws
 pub mod Theorems
+pub mod Wider
 pub mod Unique

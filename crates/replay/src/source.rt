@@ -85,6 +85,12 @@ pub(crate) fn make(engine: Engine, call: Call, out: &mut [u8], at: usize) -> Mad
             out,
             at,
         ),
+        Call::FlexRayError {
+            source,
+            time,
+            channels,
+            bits,
+        } => crate::engine::timed(engine.flexray_error(source, time, channels, bits), out, at),
         _ => update(engine, call, out, at),
     }
 }

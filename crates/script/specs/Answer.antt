@@ -48,10 +48,15 @@ stateText State.Absent = dash
 unfoldable pub flexrayText : ℕ → ℕ → ℕ → List ℕ
 flexrayText channels slot cycle = fieldText channels ++ (47 ∷ []) ++ decimalOf slot ++ (47 ∷ []) ++ decimalOf cycle
 
+-- CHANNELS/-/- for an error without a frame
+unfoldable pub errorText : ℕ → List ℕ
+errorText channels = fieldText channels ++ (47 ∷ 45 ∷ 47 ∷ 45 ∷ [])
+
 abbrev pub identText : Ident → List ℕ
 identText (Ident.Can key) = fieldText key
 identText (Ident.Lin pid) = fieldText pid
 identText (Ident.FlexRay channels slot cycle) = flexrayText channels slot cycle
+identText (Ident.FlexRayError channels) = errorText channels
 identText (Ident.Bare k) = dash
 
 abbrev pub loadText : Bool → ℕ → List ℕ

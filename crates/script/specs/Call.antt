@@ -119,11 +119,20 @@ canOf line =
     (λ source time. openNarrow (narrowAt line 4) Call.Bad
     (λ key. Call.Can source time key))
 
+-- flexray-error S SEC NANO CHANNELS BITS
+unfoldable pub errorOf : List ℕ → Call
+errorOf line =
+    openStamp (stampAt line) Call.Bad
+    (λ source time. openNarrow (narrowAt line 4) Call.Bad
+    (λ channels. openNarrow (narrowAt line 5) Call.Bad
+    (λ bits. Call.FlexRayError source time channels bits)))
+
 -- the lines of six words
 unfoldable pub sixWordsOf : List ℕ → List ℕ → Call
 sixWordsOf name line =
     pick (sameOf name (99 ∷ 97 ∷ 110 ∷ [])) (canOf line)
-    (pick (sameOf name (99 ∷ 97 ∷ 110 ∷ 45 ∷ 115 ∷ 116 ∷ 97 ∷ 116 ∷ 101 ∷ [])) (canStateOf line) Call.Bad)
+    (pick (sameOf name (99 ∷ 97 ∷ 110 ∷ 45 ∷ 115 ∷ 116 ∷ 97 ∷ 116 ∷ 101 ∷ [])) (canStateOf line)
+    (pick (sameOf name (102 ∷ 108 ∷ 101 ∷ 120 ∷ 114 ∷ 97 ∷ 121 ∷ 45 ∷ 101 ∷ 114 ∷ 114 ∷ 111 ∷ 114 ∷ [])) (errorOf line) Call.Bad))
 
 -- lin S SEC NANO PID ERRORS BYTES
 unfoldable pub linOf : List ℕ → Call

@@ -15,7 +15,7 @@ ghost use Prim.Native.Nat.{_+_, _/_, _≤_};
 ghost use lib.ListN.{length};
 ghost use Rattle.codec.specs.Number.{Wrote};
 ghost use Rattle.text.specs.Put.{decimalOf, hexOf};
-ghost use Rattle.script.specs.Answer.{Short, fieldText, timeText, stateText, flexrayText, identText, loadText, placedText, itemText, judgedText, steppedText, badText, numberedText, backText, timedText, bytesText, takenText, hexSize};
+ghost use Rattle.script.specs.Answer.{Short, fieldText, timeText, stateText, flexrayText, errorText, identText, loadText, placedText, itemText, judgedText, steppedText, badText, numberedText, backText, timedText, bytesText, takenText, hexSize};
 
 fn lay(out: &mut [u8], at: usize, s: &[u8]) -> usize
     requires { ⌜ at + length (now s) ≤ length (now out) ⌝ }
@@ -73,6 +73,14 @@ fn flexray(out: &mut [u8], at: usize, channels: u8, slot: u16, cycle: u8) -> usi
     number(out, e, cycle as u64)
 }
 
+fn error(out: &mut [u8], at: usize, channels: u8) -> usize
+    requires { ⌜ at + 25 ≤ length (now out) ⌝ }
+    ensures { λ r. ⌜ Short 25 (now (out .entry)) at (errorText channels) (now (out .exit)) r ⌝ }
+{
+    let a = field(out, at, channels as u64);
+    lay(out, a, b"/-/-")
+}
+
 fn ident(out: &mut [u8], at: usize, id: Ident) -> usize
     requires { ⌜ at + 63 ≤ length (now out) ⌝ }
     ensures { λ r. ⌜ Short 63 (now (out .entry)) at (identText id) (now (out .exit)) r ⌝ }
@@ -85,6 +93,7 @@ fn ident(out: &mut [u8], at: usize, id: Ident) -> usize
             slot,
             cycle,
         } => flexray(out, at, channels, slot, cycle),
+        Ident::FlexRayError(channels) => error(out, at, channels),
         Ident::Bare(_) => lay(out, at, b" -"),
     }
 }

@@ -102,6 +102,12 @@ pub enum Call {
         slot: u32,
         cycle: u32,
     },
+    FlexRayError {
+        source: u64,
+        time: Time,
+        channels: u32,
+        bits: u32,
+    },
 }
 
 // The count of words is part of a call: a missing or an extra word makes it none.

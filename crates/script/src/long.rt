@@ -5,7 +5,7 @@ use crate::word::Narrow;
 use crate::word::Stamp;
 use text::number::Number;
 ghost use mathlib.Core.Path.{_≡_};
-ghost use Rattle.script.specs.Call.{canStateOf, canOf, sixWordsOf, linOf, conflictOf, slotsOf, sevenWordsOf, flexrayOf, eightWordsOf};
+ghost use Rattle.script.specs.Call.{canStateOf, canOf, errorOf, sixWordsOf, linOf, conflictOf, slotsOf, sevenWordsOf, flexrayOf, eightWordsOf};
 
 fn can_state(line: &[u8]) -> Call
     ensures { λ r. ⌜ r ≡ canStateOf (now (line .entry)) ⌝ }
@@ -46,6 +46,26 @@ fn can(line: &[u8]) -> Call
     Call::Can { source, time, key }
 }
 
+fn error(line: &[u8]) -> Call
+    ensures { λ r. ⌜ r ≡ errorOf (now (line .entry)) ⌝ }
+{
+    let Stamp::Is { source, time } = crate::word::stamp_at(line) else {
+        return Call::Bad;
+    };
+    let Narrow::Is(channels) = crate::word::narrow_at(line, 4) else {
+        return Call::Bad;
+    };
+    let Narrow::Is(bits) = crate::word::narrow_at(line, 5) else {
+        return Call::Bad;
+    };
+    Call::FlexRayError {
+        source,
+        time,
+        channels,
+        bits,
+    }
+}
+
 pub(crate) fn six_words(name: &[u8], line: &[u8]) -> Call
     ensures { λ r. ⌜ r ≡ sixWordsOf (now (name .entry)) (now (line .entry)) ⌝ }
 {
@@ -54,6 +74,9 @@ pub(crate) fn six_words(name: &[u8], line: &[u8]) -> Call
     }
     if text::line::same(name, b"can-state") {
         return can_state(line);
+    }
+    if text::line::same(name, b"flexray-error") {
+        return error(line);
     }
     Call::Bad
 }

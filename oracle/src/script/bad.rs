@@ -5,7 +5,7 @@ use super::valid;
 use crate::random::Random;
 
 /// `F` stands for the digits of a right frame.
-const BAD: [&str; 71] = [
+const BAD: [&str; 79] = [
     // no such call
     "reads F",
     "READ F",
@@ -47,6 +47,14 @@ const BAD: [&str; 71] = [
     "failed F",
     "failures 0",
     "failures -",
+    "flexray-error",
+    "flexray-error 0 16 0 3",
+    "flexray-error 0 16 0 3 10 0",
+    "flexray-error 0 16 0 3 1 10",
+    "flexray-error 0 16 0 3 10 -",
+    "flexray-errors 0 16 0 3 10",
+    "flexray_error 0 16 0 3 10",
+    "flexray error 0 16 0 3 10",
     // spaces where none belong, and separators that are none
     " read F",
     "  new",

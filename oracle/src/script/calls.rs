@@ -118,6 +118,25 @@ pub fn conflict(scene: &mut Scene, number: usize) -> Draft {
     of_source("conflict", scene, number, words)
 }
 
+/// Of a FlexRay source.
+pub fn flexray_error(scene: &mut Scene, number: usize) -> Draft {
+    let at = scene.next_time();
+    let channels = scene.random.pick(&[1, 2, 3]);
+    let bits = scene.random.pick(&[0, 2, 4, 6, 8, 10, 12, 14]);
+    let id = id_words(Id::FlexRayError { channels });
+    let words = [time(at), id, vec![error_bits(bits)]].concat();
+    of_source("flexray-error", scene, number, words)
+}
+
+/// Right are the even numbers under 16. The others have the bit of a conflict, a bit that an update
+/// gives, or are right again if they are cut to fewer bits.
+fn error_bits(bits: u64) -> Word {
+    let under: Vec<u64> = (0..=16).collect();
+    let above = [bits + 16, bits + 32, bits + 64, bits + 128, 30, 31, 32, 63];
+    let cut = [bits + 256, bits + 65_536, bits + (1 << 31), 1 << 31, NARROW];
+    Word::at_edges(bits, NARROW, &[&under[..], &above, &cut].concat())
+}
+
 fn id_words(id: Id) -> Vec<Word> {
     match id {
         Id::Can(key) => vec![Word::at_edges(key.into(), NARROW, &KEYS)],
@@ -131,6 +150,7 @@ fn id_words(id: Id) -> Vec<Word> {
             narrow(slot, 1, 2_047),
             narrow(cycle, 0, 63),
         ],
+        Id::FlexRayError { channels } => vec![narrow(channels, 1, 3)],
     }
 }
 
@@ -149,7 +169,7 @@ fn payload(scene: &mut Scene, id: Id) -> Word {
     let beside = match id {
         Id::Can(_) => 10,
         Id::Lin(_) => 7,
-        Id::FlexRay { .. } => 9,
+        Id::FlexRay { .. } | Id::FlexRayError { .. } => 9,
     };
     let size = scene.limits().size as usize;
     let used = scene.engine().framer().filling().len().max(14);
@@ -172,6 +192,7 @@ fn payload(scene: &mut Scene, id: Id) -> Word {
         Id::Can(key) if key & CAN_FD != 0 => vec![0, 8, 9, most, left(14) + 1, 64, 65],
         Id::Can(_) | Id::Lin(_) => vec![0, 7, 8, 9],
         Id::FlexRay { .. } => vec![0, most, left(14) + 1, 254, 255],
+        Id::FlexRayError { .. } => vec![0],
     };
     let bytes = scene.random.bytes(length.min(most));
     Word::bytes(bytes, &edges)
@@ -201,21 +222,12 @@ fn can_state(scene: &mut Scene, number: usize) -> Draft {
 
 fn flexray_state(scene: &mut Scene, number: usize) -> Draft {
     let online = Word::flag(!scene.random.one_in(4));
-    let any = scene.random.byte() & 0x3e;
-    let bits = u64::from(scene.random.pick(&[0, 0x20, 0x30, 0x3e, any]));
-    let edges = [
-        0,
-        1,
-        bits + 1,
-        62,
-        63,
-        64,
-        65,
-        128,
-        bits + 256,
-        1 << 31,
-        NARROW,
-    ];
+    let bits = scene.random.pick(&[0, 0x10, 0x20, 0x30]);
+    // A bit that belongs to a report, alone and with others.
+    let reports: Vec<u64> = [1, 2, 4, 8, 14, 15].map(|own| bits + own).to_vec();
+    let ends = [0, 1, 14, 16, 48, 62, 63, 64, 65, 128];
+    let cut = [bits + 256, bits + 65_536, 1 << 31, NARROW - 15, NARROW];
+    let edges = [&reports[..], &ends, &cut].concat();
     let bits = Word::at_edges(bits, NARROW, &edges);
     of_source("flexray-state", scene, number, vec![online, bits])
 }

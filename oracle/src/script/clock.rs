@@ -9,13 +9,16 @@ use crate::frame::{Time, LAST_SECOND};
 type Call = (&'static str, &'static str);
 
 const TICK: Call = ("tick", "");
-const REPORTS: [Call; 4] = [
+const REPORTS: [Call; 5] = [
     ("can 0", "0x123 01"),
     ("lin 1", "0x7D 0 01"),
     ("flexray 2", "1 5 6 01"),
     ("conflict 2", "3 1027 63"),
+    ("flexray-error 2", "2 10"),
 ];
-const CALLS: [Call; 5] = [REPORTS[0], REPORTS[1], REPORTS[2], REPORTS[3], TICK];
+const CALLS: [Call; 6] = [
+    REPORTS[0], REPORTS[1], REPORTS[2], REPORTS[3], REPORTS[4], TICK,
+];
 /// It fills the smallest frame.
 const LONG: Call = ("can 0", "0x123 0102030405060708");
 
@@ -282,7 +285,7 @@ fn two_in_a_row(sheet: &mut Sheet) {
 }
 
 /// Against the stage of `refusals`: sources 3 to 5 are not started, and there is no source 6.
-const REFUSED: [Call; 24] = [
+const REFUSED: [Call; 29] = [
     ("can 6", "0x123 01"),
     ("can 1", "0x123 01"),
     ("can 3", "0x123 01"),
@@ -307,6 +310,11 @@ const REFUSED: [Call; 24] = [
     ("conflict 5", "1 5 6"),
     ("conflict 2", "4 5 6"),
     ("conflict 2", "1 2047 6"),
+    ("flexray-error 6", "2 10"),
+    ("flexray-error 0", "2 10"),
+    ("flexray-error 5", "2 10"),
+    ("flexray-error 2", "4 10"),
+    ("flexray-error 2", "2 11"),
 ];
 
 fn refusals(sheet: &mut Sheet) {
@@ -376,7 +384,7 @@ mod tests {
             line.map_or(0, |count| count.trim().parse().unwrap())
         };
         for (least, words) in [
-            (50, "can lin flexray conflict tick one cut"),
+            (50, "can lin flexray conflict flexray-error tick one cut"),
             (
                 20,
                 "under-cut edge second tick-still fits discards equal empty",

@@ -4,24 +4,47 @@ use super::garble::garbled;
 use super::raw::{RawFrame, RawItem, CAN, FLAG_SETS, FLEXRAY, ID, KINDS, LIN, PAYLOAD, STATE};
 use super::sheet::Sheet;
 use super::valid;
+use crate::frame::SLOT_VALID;
 use crate::random::Random;
+
+type Damage = fn(&mut RawItem, &mut Random);
 
 /// A wrong value of one item field, for the kinds and with the flags that carry the field.
 pub struct ItemDamage {
-    pub kinds: &'static [u8],
-    pub flags: u8,
-    pub apply: fn(&mut RawItem, &mut Random),
+    kinds: &'static [u8],
+    flags: u8,
+    /// Flags with which the value would be another thing.
+    without: u8,
+    pub apply: Damage,
 }
 
-const fn on(kinds: &'static [u8], flags: u8, apply: fn(&mut RawItem, &mut Random)) -> ItemDamage {
+impl ItemDamage {
+    pub fn fits(&self, kind: u8, flags: u8) -> bool {
+        let flags_fit = flags & self.flags == self.flags && flags & self.without == 0;
+        self.kinds.contains(&kind) && flags_fit
+    }
+}
+
+const fn on(kinds: &'static [u8], flags: u8, apply: Damage) -> ItemDamage {
     ItemDamage {
         kinds,
         flags,
+        without: 0,
         apply,
     }
 }
 
-pub const ITEM_DAMAGES: [ItemDamage; 19] = [
+/// Where an error without a frame may stand: with state and id alone.
+const fn on_error(apply: Damage) -> ItemDamage {
+    ItemDamage {
+        kinds: &[FLEXRAY],
+        flags: STATE | ID,
+        without: PAYLOAD,
+        apply,
+    }
+}
+
+pub const ITEM_DAMAGES: [ItemDamage; 26] = [
     on(&KINDS, 0, |item, _| item.kind = 0),
     on(&KINDS, 0, |item, _| item.kind = 4),
     on(&KINDS, 0, |item, random| {
@@ -42,7 +65,19 @@ pub const ITEM_DAMAGES: [ItemDamage; 19] = [
     on(&[FLEXRAY], ID, |item, random| {
         item.id[0] |= random.pick(&[0x10, 0x20, 0x30])
     }),
-    on(&[FLEXRAY], ID, |item, _| item.id[0] &= !0x08),
+    on(&[FLEXRAY], ID | PAYLOAD, |item, _| {
+        item.id[0] &= !SLOT_VALID
+    }),
+    on(&[FLEXRAY], ID | PAYLOAD, |item, random| {
+        item.id = valid::error_id(random)
+    }),
+    on_error(|item, random| error_with(item, random, 0, &[0])),
+    on_error(|item, random| error_with(item, random, 0, &[0x41, 0x42, 0x84, 0xc7])),
+    on_error(|item, random| error_with(item, random, 1, &[1, 2, 4, 8, 16, 32, 64, 128, 255])),
+    on_error(|item, random| error_with(item, random, 2, &[1, 2, 4, 8, 16, 32, 63, 64, 128])),
+    on_error(|item, random| error_with(item, random, 0, &[0x50, 0xa0, 0xf0])),
+    // A frame's id that has lost its bit 3.
+    on_error(|item, _| item.id[0] = item.id[0] & !SLOT_VALID | 1),
     on(&[FLEXRAY], ID, |item, _| item.id[0] &= 0x3f),
     on(&[FLEXRAY], ID, slot_zero),
     on(&[FLEXRAY], ID, |item, random| {
@@ -68,7 +103,18 @@ fn standard_id_too_big(item: &mut RawItem, random: &mut Random) {
     item.id = (fd | id).to_be_bytes().to_vec();
 }
 
+/// An error without a frame, of which one byte of the id is wrong. Where it is one already, what was
+/// wrong before stays: two damages of other bytes come together.
+fn error_with(item: &mut RawItem, random: &mut Random, byte: usize, wrong: &[u8]) {
+    if item.id[0] & SLOT_VALID != 0 {
+        item.id = vec![item.id[0] & !0x0f, 0, 0];
+    }
+    item.id[byte] = random.pick(wrong);
+}
+
+/// Of a frame's id: an error has no other.
 fn slot_zero(item: &mut RawItem, _: &mut Random) {
+    item.id[0] |= SLOT_VALID;
     item.id[0] &= !0x07;
     item.id[1] = 0;
 }
@@ -101,7 +147,7 @@ pub fn carrier(random: &mut Random, damage: &ItemDamage) -> RawItem {
     let kind = random.pick(damage.kinds);
     loop {
         let flags = random.pick(&FLAG_SETS);
-        if flags & damage.flags == damage.flags {
+        if damage.fits(kind, flags) {
             return valid::item(random, kind, flags);
         }
     }
@@ -231,7 +277,8 @@ mod tests {
 
     /// What a reader says of each item damage where the item is the last.
     const REFUSALS: [u8; ITEM_DAMAGES.len()] = [
-        24, 24, 24, 24, 26, 25, 29, 25, 29, 25, 25, 29, 29, 29, 27, 27, 27, 23, 23,
+        24, 24, 24, 24, 26, 25, 29, 25, 29, 25, 25, 25, 29, 29, 29, 29, 25, 29, 29, 29, 29, 27, 27,
+        27, 23, 23,
     ];
 
     #[test]

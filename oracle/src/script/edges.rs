@@ -10,11 +10,12 @@ use crate::random::Random;
 type Maker = fn(&mut Scene) -> Draft;
 
 /// In the scene of a sweep, sources 0, 1 and 2 are of CAN, LIN and FlexRay and take everything.
-const MAKERS: [Maker; 18] = [
+const MAKERS: [Maker; 19] = [
     |scene| calls::frame(scene, 0),
     |scene| calls::frame(scene, 1),
     |scene| calls::frame(scene, 2),
     |scene| calls::conflict(scene, 2),
+    |scene| calls::flexray_error(scene, 2),
     |scene| calls::state(scene, 0),
     |scene| calls::state(scene, 1),
     |scene| calls::state(scene, 2),

@@ -82,7 +82,7 @@ const MOODS: [Mood; 7] = [
     EVERYDAY, EVERYDAY, OVERRUN, OVERRUN, STATES, FILTERS, CARELESS,
 ];
 
-const BEFORE_SETUP: [&str; 25] = [
+const BEFORE_SETUP: [&str; 28] = [
     "start 0",
     "stop 0",
     "can 0 16 0 0x123 0102",
@@ -91,6 +91,9 @@ const BEFORE_SETUP: [&str; 25] = [
     "lin 0 16 0 0x3D 0 -",
     "flexray 0 16 0 1 1 0 -",
     "conflict 0 16 0 3 1027 63",
+    "flexray-error 0 16 0 3 10",
+    "flexray-error 0 16 0 0 1",
+    "flexray-error 0 281474976710656 0 3 10",
     "can-state 0 1 0 0 0",
     "can-state 0 1 1 1 256",
     "lin-state 0 1",
@@ -215,7 +218,9 @@ fn report(scene: &mut Scene) {
     if !scene.source(number).started && !scene.random.one_in(4) {
         scene.say(&calls::start(scene, number));
     }
-    if scene.source(number).filters == [None; PLACES] {
+    // An error without a frame asks for no filter.
+    let may_do_without = scene.source(number).kind == Kind::FlexRay && scene.random.one_in(3);
+    if scene.source(number).filters == [None; PLACES] && !may_do_without {
         let draft = match scene.random.below(4) {
             0 => calls::filter(scene, number),
             _ => calls::filter_for_all(scene, number),
@@ -230,7 +235,11 @@ fn any_report(scene: &mut Scene, number: usize) -> Draft {
     let kind = scene.source(number).kind;
     match kind {
         Kind::Lin if scene.random.one_in(20) => calls::garbled_frame(scene, number),
-        Kind::FlexRay if scene.random.one_in(3) => calls::conflict(scene, number),
+        Kind::FlexRay => match scene.random.below(10) {
+            0..=2 => calls::conflict(scene, number),
+            3..=5 => calls::flexray_error(scene, number),
+            _ => calls::frame(scene, number),
+        },
         _ => calls::frame(scene, number),
     }
 }

@@ -21,6 +21,7 @@ pub const CAN: &str = "can 0 @ 0x123 01";
 pub const LIN: &str = "lin 1 @ 0x7D 0 01";
 pub const FLEXRAY: &str = "flexray 2 @ 1 5 6 01";
 pub const CONFLICT: &str = "conflict 2 @ 3 1027 63";
+pub const ERROR: &str = "flexray-error 2 @ 3 10";
 
 /// The script, and a clock that goes on with each line.
 pub struct Play<'a> {
@@ -96,6 +97,10 @@ impl<'a> Play<'a> {
     /// Shows what the frames hold: they are closed and taken.
     pub fn show(&mut self) {
         self.act("c");
+        self.take_waiting();
+    }
+
+    pub fn take_waiting(&mut self) {
         while self.sheet.engine().framer().waiting() > 0 {
             self.take();
         }
@@ -175,7 +180,7 @@ fn beginning_again(sheet: &mut Sheet) {
 
 /// Calls that leave a loss and the frame that is out, or make an item. On the stage of
 /// `calls_between` source 3 has no place for a filter, LIN ids are odd, and there is no source 4.
-const BETWEEN: [&str; 46] = [
+const BETWEEN: [&str; 52] = [
     "take 0",
     "take 4",
     "take 4",
@@ -191,7 +196,7 @@ const BETWEEN: [&str; 46] = [
     "failures",
     "can-state 0 1 0 0 0",
     "lin-state 1 0",
-    "flexray-state 2 1 62",
+    "flexray-state 2 1 48",
     "start 1\nlin-state 1 1\ntick @",
     "tick 281474976710656 0",
     "tick 0 1000000000",
@@ -211,6 +216,11 @@ const BETWEEN: [&str; 46] = [
     "lin 1 @ 0x3D 0 01",
     "flexray 2 @ 1 2047 6 01",
     "conflict 2 @ 0 1 6",
+    "flexray-error 4 @ 3 10",
+    "flexray-error 0 @ 3 10",
+    "flexray-error 2 @ 0 10",
+    "flexray-error 2 @ 3 11",
+    "flexray-state 2 1 62",
     "can-state 0 1 1 1 0",
     "lin-state 0 1",
     "flexray-state 4 1 0",
@@ -222,6 +232,7 @@ const BETWEEN: [&str; 46] = [
     LIN,
     FLEXRAY,
     CONFLICT,
+    ERROR,
 ];
 
 /// Every other time a frame waits and another one is being filled.
@@ -261,7 +272,7 @@ mod tests {
             (50, "0 17 17-twice empty filling told-can told-known told-unknown told-between"),
             (10, "17-before-setup 17-no-take 17-switch 17-new queue-full told-lin told-flexray told-opening bad"),
             (5, "17-offline 17-offline-take 17-switch-take discard-pending failure-pending then-discard-report"),
-            (5, "grown-fits grown-closes grown-discards told-conflict told-state told-behind told-several"),
+            (5, "grown-fits grown-closes grown-discards told-conflict told-flexray-error told-state told-behind told-several"),
             (3, "17-twice-take then-discard-tick dropped-offline dropped-switch dropped-new"),
         ] {
             for what in words.split(' ') {
@@ -272,7 +283,16 @@ mod tests {
             assert!(of(&format!("failed kept-{cause} ")) > 0, "{cause}");
         }
         for call in [
-            "can", "lin", "flexray", "conflict", "tick", "start", "stop", "12", "13",
+            "can",
+            "lin",
+            "flexray",
+            "conflict",
+            "flexray-error",
+            "tick",
+            "start",
+            "stop",
+            "12",
+            "13",
         ] {
             assert!(of(&format!("failed after-{call} ")) > 0, "{call}");
         }

@@ -1,7 +1,7 @@
 //! Which item tells that a send failed: of every sort, for several losses at once, and at the end of
 //! a frame, where the byte for the state makes the item too long.
 
-use super::failed::{Play, CAN, CONFLICT, FLEXRAY, LATE, LIN, MILLI, TICK};
+use super::failed::{Play, CAN, CONFLICT, ERROR, FLEXRAY, LATE, LIN, MILLI, TICK};
 use super::sheet::Sheet;
 use crate::frame::HEADER_LENGTH;
 
@@ -12,7 +12,7 @@ pub fn every_item(sheet: &mut Sheet) {
 }
 
 /// What tells the loss, and what is called before it to make the state known, or unknown again.
-const TELLERS: [(&str, &str); 12] = [
+const TELLERS: [(&str, &str); 15] = [
     (CAN, "start 0"),
     (CAN, "can-state 0 1 0 0 0"),
     (CAN, ""),
@@ -23,6 +23,9 @@ const TELLERS: [(&str, &str); 12] = [
     (FLEXRAY, "flexray-state 2 1 32"),
     (CONFLICT, ""),
     (CONFLICT, "start 2"),
+    (ERROR, ""),
+    (ERROR, "start 2"),
+    (ERROR, "flexray-state 2 1 32"),
     (TICK, "start 1\nlin-state 1 1"),
     (TICK, "start 1\nlin-state 1 1\nstart 2\nflexray-state 2 1 0"),
 ];

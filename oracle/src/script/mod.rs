@@ -8,6 +8,8 @@ mod damage;
 mod draft;
 mod edges;
 mod episode;
+mod error_frames;
+mod error_reports;
 mod failed;
 mod failed_items;
 mod garble;
@@ -44,9 +46,11 @@ pub fn make(seed: u64, lines: usize) -> Vec<u8> {
     clock::every_step_back(&mut sheet);
     failed::every_failure(&mut sheet);
     failed_items::every_item(&mut sheet);
+    error_reports::every_error(&mut sheet);
     valid::every_form(&mut sheet, &mut random);
     sweep::every_value(&mut sheet, &mut random);
     pid_frames::every_frame(&mut sheet, &mut random);
+    error_frames::every_frame(&mut sheet, &mut random);
     damage::every_damage(&mut sheet, &mut random);
     order::two_causes(&mut sheet, &mut random);
     bad::every_bad_line(&mut sheet, &mut random);
@@ -117,6 +121,23 @@ mod tests {
                 assert!(counts.contains(&wanted), "{cause} with seed {seed}");
             }
             assert!(!counts.contains("taken unreadable"));
+        }
+    }
+
+    #[test]
+    fn every_first_byte_of_an_id_comes_whatever_the_seed() {
+        for seed in 0..2 {
+            let counts = String::from_utf8(count::report(&make(seed, 0))).unwrap();
+            for wanted in [
+                "bytes-60 256",
+                "bytes-e0 256",
+                "bytes-c0 256",
+                "updates-right 4",
+                "updates-wrong 60",
+            ] {
+                let line = format!("\nerror {wanted}\n");
+                assert!(counts.contains(&line), "{wanted} with seed {seed}");
+            }
         }
     }
 

@@ -50,8 +50,7 @@ fn two_in_the_header(sheet: &mut Sheet, random: &mut Random, first: usize, secon
 fn two_in_an_item(sheet: &mut Sheet, random: &mut Random, first: usize, second: usize) {
     let (first, second) = (&ITEM_DAMAGES[first], &ITEM_DAMAGES[second]);
     let mut item = carrier(random, first);
-    let fits = second.kinds.contains(&item.kind) && item.flags & second.flags == second.flags;
-    if !fits {
+    if !second.fits(item.kind, item.flags) {
         return;
     }
     (first.apply)(&mut item, random);

@@ -87,7 +87,7 @@ fn before_and_after(sheet: &mut Sheet, random: &mut Random, flags: u8) {
 
 fn in_one_item(sheet: &mut Sheet, random: &mut Random, flags: u8) {
     for damage in &ITEM_DAMAGES {
-        if damage.kinds.contains(&LIN) && flags & damage.flags == damage.flags {
+        if damage.fits(LIN, flags) {
             let mut item = wrong(random, flags);
             (damage.apply)(&mut item, random);
             let frame = valid::frame(random, vec![item]);

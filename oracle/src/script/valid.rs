@@ -66,6 +66,9 @@ pub fn item(random: &mut Random, kind: u8, flags: u8) -> RawItem {
     if flags & ID != 0 {
         item.id = id(random, kind);
     }
+    if kind == FLEXRAY && flags == STATE | ID && random.one_in(3) {
+        item.id = error_id(random);
+    }
     if flags & PAYLOAD != 0 {
         let longest = longest_payload(kind, &item.id);
         let any = random.below(longest + 1);
@@ -120,6 +123,11 @@ fn flexray_id(random: &mut Random) -> Vec<u8> {
     vec![channels << 6 | 8 | (slot >> 8) as u8, slot as u8, cycle]
 }
 
+/// The id of an error without a frame: the channels alone.
+pub fn error_id(random: &mut Random) -> Vec<u8> {
+    vec![random.pick(&[1, 2, 3]) << 6, 0, 0]
+}
+
 /// Each kind with each flag set, alone and before and after other items.
 pub fn every_form(sheet: &mut Sheet, random: &mut Random) {
     sheet.note("Accepted frames: every kind with every flag set.");
@@ -147,7 +155,8 @@ pub fn any_frame(sheet: &mut Sheet, random: &mut Random) {
     calls(sheet, random, &frame, 1);
 }
 
-fn calls(sheet: &mut Sheet, random: &mut Random, frame: &RawFrame, wrong: usize) {
+/// Every call on the frame, with so many places that are none.
+pub fn calls(sheet: &mut Sheet, random: &mut Random, frame: &RawFrame, wrong: usize) {
     let bytes = frame.bytes();
     sheet.read(random, &bytes);
     for place in frame.places() {

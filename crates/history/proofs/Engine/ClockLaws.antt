@@ -9,7 +9,7 @@ use Rattle.codec.specs.declared.time.Time.{Time}
 use Rattle.codec.specs.declared.time.Nanos.{Nanos}
 use Rattle.codec.proofs.Opened.{never}
 use Rattle.framer.specs.Meter.{backFor}
-use Rattle.bus.specs.Report.{canReport, linReport, flexrayReport, frameReport, conflictReport}
+use Rattle.bus.specs.Report.{canReport, linReport, flexrayReport, frameReport, conflictReport, errorReport}
 use Rattle.bus.specs.declared.report.Report.{Report}
 use Rattle.mirror.specs.Engine.{timed}
 use Rattle.mirror.specs.Report.{reportOf}
@@ -51,11 +51,12 @@ module _ (c : Limits) (e : Engine) (l : Ledger) (t : Tied c (e .framer) l) where
   tick-tells x = number-is _ _ _ (back-is x)
 
   pub tells-by : (x : Call) → saysBy (deedOf e x) ≡ tellsBy l (deedOf e x)
-  unfolding saysBy tellsBy done canReport linReport flexrayReport
+  unfolding saysBy tellsBy done canReport linReport flexrayReport errorReport
   tells-by (Call.can source x key payload) = ap one (report-tells (canReport source x key) payload)
   tells-by (Call.lin source x pid bits payload) = ap one (report-tells (linReport source x pid bits) payload)
   tells-by (Call.flexray source x channels slot cycle payload) = ap one (report-tells (frameReport source x channels slot cycle) payload)
   tells-by (Call.conflict source x channels slot cycle) = ap one (report-tells (conflictReport source x channels slot cycle) [])
+  tells-by (Call.flexray-error source x channels bits) = ap one (report-tells (errorReport source x channels bits) [])
   tells-by (Call.tick x) = ap one (tick-tells x)
   tells-by (Call.setup size room deadline pairs) = refl
   tells-by (Call.switch size room deadline) = refl

@@ -19,7 +19,7 @@ use Rattle.framer.specs.declared.offer.Offer.{Offer}
 use Rattle.framer.proofs.FramerLaws.{sounds}
 use Rattle.bus.specs.Source.{addCause}
 use Rattle.bus.specs.Update.{canUpdate, linUpdate, flexrayUpdate}
-use Rattle.bus.specs.Report.{canReport, linReport, flexrayReport, frameReport, conflictReport}
+use Rattle.bus.specs.Report.{canReport, linReport, flexrayReport, frameReport, conflictReport, errorReport}
 use Rattle.bus.specs.declared.source.Source.{Source}
 use Rattle.bus.specs.declared.update.Update.{Update}
 use Rattle.bus.specs.declared.report.Report.{Report}
@@ -36,7 +36,7 @@ use Rattle.mirror.specs.Call as Call
 use Rattle.mirror.specs.declared.engine.Engine.{Engine}
 use Rattle.mirror.proofs.Kept.{metered, kept}
 use Rattle.mirror.proofs.Refused.{refused-keeps}
-use Rattle.history.specs.Meaning.{meaning, Bound, none, errors, conflict}
+use Rattle.history.specs.Meaning.{meaning, Bound, none, errors, conflict, aggregated}
 use Rattle.history.specs.Account.{Account, accountAt, startedAccount, stoppedAccount, updatedAccount, reportEvent, reportedAccount, stateEvents, tickedAccount, changed, accountsOf}
 use Rattle.history.specs.Ledger.{Limits, Op}
 use Rattle.history.specs.Ledger as Rules
@@ -48,7 +48,7 @@ use Rattle.history.proofs.Ground.ListLaws.{all-append, all-set}
 use Rattle.history.proofs.Framer.OutputLaws.{taking}
 use Rattle.history.proofs.Sources.SourceLaws.{accountOf, HealthyS, Brings, started-account, started-healthy, stopped-account, stopped-healthy, updated-account, updated-healthy, added-account, removed-account, healthy-by, brings-can, brings-lin, brings-flexray}
 use Rattle.history.proofs.Sources.ReportLaws.{settled-account, settled-healthy}
-use Rattle.history.proofs.Sources.EventLaws.{Means, offer-meant, report-fit, means-can, means-lin, means-frame, means-conflict}
+use Rattle.history.proofs.Sources.EventLaws.{Means, offer-meant, report-fit, means-can, means-lin, means-frame, means-conflict, means-error}
 use Rattle.history.proofs.Sources.BookLaws.{bookOf, Steady, accepted, healthy-at, account-at, changed-book, same-book, healthy-book}
 use Rattle.history.proofs.Sources.SetupLaws.{setup-empty}
 use Rattle.history.proofs.Sources.TickLaws.{states-count, states-length, states-healthy, states-fit, ticked-book, ticked-framer}
@@ -197,7 +197,7 @@ module _ (e : Engine) (s : Steady e) where
 -- every accepted call: setup is accepted once only, and switch and offline are no plain calls
 does : (e : Engine) (x : Call) → Steady e → Plain x → stepOf e x .said .answer ≡ 0
     → Does e (accountsOf (bookOf e) (meaning x)) (opsOf (bookOf e) (meaning x)) (stepOf e x .engine)
-unfolding opsOf canReport linReport flexrayReport canUpdate linUpdate flexrayUpdate
+unfolding opsOf canReport linReport flexrayReport errorReport canUpdate linUpdate flexrayUpdate
 does e (Call.setup f room deadline pairs) s p z =
     let h = setup-empty e f room deadline pairs z in
     let y : ⊥ = omega (arith, s .some) in
@@ -214,6 +214,8 @@ does e (Call.flexray k t channels slot cycle payload) s p z =
     report-does e s none (Ident.FlexRay channels slot cycle) (frameReport k t channels slot cycle) payload (p .1) (means-frame k t channels slot cycle (length payload)) z
 does e (Call.conflict k t channels slot cycle) s p z =
     report-does e s conflict (Ident.FlexRay channels slot cycle) (conflictReport k t channels slot cycle) [] tt (means-conflict k t channels slot cycle) z
+does e (Call.flexray-error k t channels bits) s p z =
+    report-does e s (aggregated bits) (Ident.FlexRayError channels) (errorReport k t channels bits) [] tt (means-error k t channels bits) z
 does e (Call.can-state k online passive busOff counter) s p z =
     update-does e s _ (canUpdate k online passive busOff counter) (λ g. brings-can k online passive busOff counter) z
 does e (Call.lin-state k online) s p z = update-does e s _ (linUpdate k online) (λ g. brings-lin k online) z

@@ -57,6 +57,7 @@ module _ (c : Limits) (e : Engine) (l : Ledger) (s : soundOf e ≡ true) (k : Ti
   finds-out (Call.lin source t pid bits payload) z q = wrong 0 (sym q)
   finds-out (Call.flexray source t channels slot cycle payload) z q = wrong 0 (sym q)
   finds-out (Call.conflict source t channels slot cycle) z q = wrong 0 (sym q)
+  finds-out (Call.flexray-error source t channels bits) z q = wrong 0 (sym q)
   finds-out (Call.can-state source online passive busOff counter) z q = wrong 0 (sym q)
   finds-out (Call.lin-state source online) z q = wrong 0 (sym q)
   finds-out (Call.flexray-state source online bits) z q = wrong 0 (sym q)

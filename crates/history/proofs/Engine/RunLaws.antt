@@ -40,6 +40,7 @@ out-by c e l (Call.can source x key payload) s t z = refl
 out-by c e l (Call.lin source x pid bits payload) s t z = refl
 out-by c e l (Call.flexray source x channels slot cycle payload) s t z = refl
 out-by c e l (Call.conflict source x channels slot cycle) s t z = refl
+out-by c e l (Call.flexray-error source x channels bits) s t z = refl
 out-by c e l (Call.can-state source online passive busOff counter) s t z = refl
 out-by c e l (Call.lin-state source online) s t z = refl
 out-by c e l (Call.flexray-state source online bits) s t z = refl

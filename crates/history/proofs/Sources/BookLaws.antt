@@ -48,7 +48,7 @@ unfolding accountOf freshAccount
 no-account = refl
 
 pub no-healthy : HealthyS noSource
-no-healthy = record { network = omega arith; state = omega arith; shown = refl }
+no-healthy = record { network = omega arith; state = omega arith; shown = refl; bound = refl }
 
 -- a source with a number below the count, its account, and the book with it changed
 module _ (e : Engine) (s : Steady e) where

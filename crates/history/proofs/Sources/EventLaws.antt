@@ -1,17 +1,17 @@
 -- The events that reports and ticks give: each fits every frame.
 use Prim.Native.Nat.{ℕ, _+_, _*_, _/_, _%_, _^_, _≤_, _<_}
 use mathlib.Core.Path.{_≡_, refl, sym, ap, _∙_}
-use mathlib.Core.Bool.{Bool, true, false, _||_}
+use mathlib.Core.Bool.{Bool, true, false, _&&_, _||_}
 use mathlib.Core.List.{List}
 use native.Mathlib.Omega.{arith}
 use lib.ListN.{length}
-use lib.Dec.{leb}
-use borrow.Author.Tests.{leb-true, le-leb}
+use lib.Dec.{leb, eqb}
+use borrow.Author.Tests.{leb-true, le-leb, eqb-true}
 use Rattle.codec.specs.Choice.{bit}
 use Rattle.codec.specs.Number.{Bytes}
 use Rattle.codec.specs.Time.{timeOk}
-use Rattle.codec.specs.Ident.{kindOf, identOk, mostOf}
-use Rattle.codec.specs.Item.{shownOk, setOf, setOk, loadOk, itemOk}
+use Rattle.codec.specs.Ident.{kindOf, channelsOk, identOk, mostOf}
+use Rattle.codec.specs.Item.{shownOk, setOf, setFor, loadOk, itemOk}
 use Rattle.codec.specs.Layout.{IdentFits}
 use Rattle.codec.specs.declared.time.Time.{Time}
 use Rattle.codec.specs.declared.ident.Ident.{Ident}
@@ -20,22 +20,22 @@ use Rattle.codec.specs.declared.item.State.the-variants as State
 use Rattle.codec.proofs.BoolLaws.{and-l, and-r, or-true}
 use Rattle.codec.proofs.PidLaws.{pid-small}
 use Rattle.codec.proofs.Opened.{never}
-use Rattle.codec.proofs.ItemLaws.{most-small, flexray-in}
-use Rattle.bus.specs.Report.{canReport, linReport, flexrayReport, frameReport, conflictReport, offerOf}
+use Rattle.codec.proofs.ItemLaws.{most-small, channels-in, flexray-in}
+use Rattle.bus.specs.Report.{canReport, linReport, flexrayReport, frameReport, conflictReport, errorBits, errorReport, offerOf}
 use Rattle.bus.specs.declared.source.Source.{Source}
 use Rattle.bus.specs.declared.report.Report.{Report}
 use Rattle.bus.proofs.BusLaws.{Passed}
-use Rattle.history.specs.Meaning.{Bound, none, errors, conflict}
-use Rattle.history.specs.Account.{Event, Account, written, differs, showsBy, reportEvent, stateEvent}
+use Rattle.history.specs.Meaning.{Bound, none, errors, conflict, aggregated}
+use Rattle.history.specs.Account.{Event, Account, written, informs, insists, differs, showsBy, reportEvent, stateEvent}
 use Rattle.history.specs.Ledger.{Limits, stateIn, itemIn}
 use Rattle.history.proofs.Ground.Machine.{offerIn, Fit}
 use Rattle.history.proofs.Sources.SourceLaws.{accountOf, HealthyS, HealthyA, kind-same, shown-same}
-use Rattle.history.proofs.Sources.ReportLaws.{Bind, bind-none, bind-errors, bind-conflict, noted-state, offer-due}
+use Rattle.history.proofs.Sources.ReportLaws.{Bind, bind-none, bind-errors, bind-conflict, bind-aggregated, noted-state, offer-due}
 
 -- the item of an event may stand in a frame, with a loss or without
 event-ok : (ev : Event) → identOk (ev .ident) ≡ true → loadOk (ev .carries) (mostOf (ev .ident)) (length (ev .payload)) ≡ true
-    → shownOk (kindOf (ev .ident)) (ev .state) ≡ true → setOk (setOf (State.Byte 0) (ev .ident) (ev .carries)) ≡ true
-    → (ev .due ≡ false → setOk (setOf State.Absent (ev .ident) (ev .carries)) ≡ true)
+    → shownOk (kindOf (ev .ident)) (ev .state) ≡ true → setFor (ev .ident) (setOf (State.Byte 0) (ev .ident) (ev .carries)) ≡ true
+    → (ev .due ≡ false → setFor (ev .ident) (setOf State.Absent (ev .ident) (ev .carries)) ≡ true)
     → (offset : ℕ) (lost : Bool) → itemOk (itemIn (record { event = ev; offset = offset; lost = lost })) (length (ev .payload)) ≡ true
 unfolding itemOk itemIn stateIn
 event-ok ev i l s e a offset true =
@@ -49,13 +49,13 @@ event-ok ev i l s e a offset false = go (ev .due) refl
 
 -- what a report says of its frame-bound bits and of its id, in the caller's own numbers
 pub record Means (b : Bound) (id : Ident) (r : Report) (n : ℕ) : Type 0 where
-  pub bind : Bind b (r .kept) (r .raised)
+  pub bind : Bind b (r .kept) (r .raised) (r .carries)
   pub ident : r .ident ≡ id
   pub fits : IdentFits id
   pub ok : identOk id ≡ true
   pub load : n ≤ mostOf id → loadOk (r .carries) (mostOf id) n ≡ true
-  pub set : setOk (setOf (State.Byte 0) id (r .carries)) ≡ true
-  pub still : (a : Account) → showsBy b a ≡ false → setOk (setOf State.Absent id (r .carries)) ≡ true
+  pub set : setFor id (setOf (State.Byte 0) id (r .carries)) ≡ true
+  pub still : (a : Account) → showsBy b a ≡ false → setFor id (setOf State.Absent id (r .carries)) ≡ true
 
 pub means-can : (source : ℕ) (t : Time) (key n : ℕ) → key < 2 ^ 32 → canReport source t key .ranged ≡ true → Means none (Ident.Can key) (canReport source t key) n
 unfolding canReport
@@ -114,10 +114,10 @@ means-frame source t channels slot cycle n e =
       still = λ a z. refl;
     }
 
--- a conflict is always shown
-conflict-shown : (a : Account) → showsBy conflict a ≡ true
+-- what insists on the state is always shown
+insists-shown : (b : Bound) (a : Account) → insists b ≡ true → showsBy b a ≡ true
 unfolding showsBy
-conflict-shown a = or-true (differs (a .known || true) (a .state / 2 * 2 + 1) a)
+insists-shown b a e = rw e (or-true (differs (a .known || informs b) (written b (a .state)) a))
 
 pub means-conflict : (source : ℕ) (t : Time) (channels slot cycle : ℕ) → conflictReport source t channels slot cycle .ranged ≡ true
     → Means conflict (Ident.FlexRay channels slot cycle) (conflictReport source t channels slot cycle) 0
@@ -131,7 +131,28 @@ means-conflict source t channels slot cycle e =
       ok = h .1;
       load = λ k. refl;
       set = refl;
-      still = λ a z. never (sym (ap bit (sym (conflict-shown a) ∙ z)));
+      still = λ a z. never (sym (ap bit (sym (insists-shown conflict a refl) ∙ z)));
+    }
+
+pub means-error : (source : ℕ) (t : Time) (channels bits : ℕ) → errorReport source t channels bits .ranged ≡ true
+    → Means (aggregated bits) (Ident.FlexRayError channels) (errorReport source t channels bits) 0
+unfolding errorReport errorBits
+means-error source t channels bits e =
+    let k = and-l (channelsOk channels) (leb bits 15 && eqb (bits % 2) 0) e in
+    let j = and-r (channelsOk channels) (leb bits 15 && eqb (bits % 2) 0) e in
+    let p = channels-in channels k in
+    let q : bits ≤ 15 = leb-true bits 15 (and-l (leb bits 15) (eqb (bits % 2) 0) j) in
+    let d : bits % 2 ≡ 0 = eqb-true (bits % 2) 0 (and-r (leb bits 15) (eqb (bits % 2) 0) j) in
+    let x : channels % 256 ≡ channels = omega (arith, p .1) in
+    let y : bits % 256 ≡ bits = omega arith in
+    record {
+      bind = rw y (bind-aggregated bits (omega arith) d);
+      ident = ap Ident.FlexRayError x;
+      fits = tt;
+      ok = k;
+      load = λ k. refl;
+      set = refl;
+      still = λ a z. never (sym (ap bit (sym (insists-shown (aggregated bits) a refl) ∙ z)));
     }
 
 -- an accepted report is one event that fits

@@ -84,6 +84,7 @@ resets-begun c book e (Call.can source t key payload) a r z = absurd r
 resets-begun c book e (Call.lin source t pid bits payload) a r z = absurd r
 resets-begun c book e (Call.flexray source t channels slot cycle payload) a r z = absurd r
 resets-begun c book e (Call.conflict source t channels slot cycle) a r z = absurd r
+resets-begun c book e (Call.flexray-error source t channels bits) a r z = absurd r
 resets-begun c book e (Call.can-state source online passive busOff counter) a r z = absurd r
 resets-begun c book e (Call.lin-state source online) a r z = absurd r
 resets-begun c book e (Call.flexray-state source online bits) a r z = absurd r

@@ -1,4 +1,4 @@
--- The ledger run by itself on P1 to P11 (docs/RULES.md, "Worked examples"): from the calls and the answers of the table, with no
+-- The ledger run by itself on P1 to P11 and P13 (docs/RULES.md, "Worked examples"): from the calls and answers of the table, with no
 -- engine, its taken frames laid out are the bytes of the table, it has discarded and marked as failed as many as the table says, of
 -- the clock it tells the numbers of the table, and it has a frame out exactly where `failed` was answered 0.
 use Prim.Native.Nat.{ℕ, _+_}
@@ -13,7 +13,7 @@ use Rattle.mirror.specs.Call.{Call, Said}
 use Rattle.mirror.specs.Call as Call
 use Rattle.mirror.specs.Row.{Row}
 use Rattle.mirror.specs.Vectors.{p1, p2, p3, p4, p5, p6, p7, p8, p9}
-use Rattle.mirror.specs.LaterVectors.{p10, p11, p11-first, p11-fifth}
+use Rattle.mirror.specs.LaterVectors.{p10, p11, p11-first, p11-fifth, p13}
 use Rattle.history.specs.Meaning.{canState, meaning}
 use Rattle.history.specs.Account.{freshAccount, kindNamed, accountsFor, accountAt, startedAccount, stoppedAccount, updatedAccount, differs, showsBy, reportEvent, reportedAccount, callsFor, stateEvent, tickedAccount, changed}
 use Rattle.history.specs.Ledger.{Ledger, emptyLedger, discardCount, stateIn, itemIn, sizeIn, takenIn, waitingIn, failureCount, sentIn, offsetIn, lineFor, closesBefore, overdue, hasRoom, close, begin, enter, mirrored, passed, taken, isOut, failed}
@@ -92,7 +92,7 @@ abbrev pub cases : List Case
 cases =
     on 64 1 (1 ∷ 5 ∷ []) p1 0 0 ∷ on 64 1 (1 ∷ 5 ∷ []) p2 0 0 ∷ on 64 2 (1 ∷ 5 ∷ []) p3 0 0 ∷ on 64 1 (1 ∷ 5 ∷ []) p4 0 0
     ∷ on 64 2 (1 ∷ 5 ∷ []) p5 0 0 ∷ on 32 1 (1 ∷ 5 ∷ []) p6 0 0 ∷ on 64 1 (3 ∷ 7 ∷ []) p7 0 0 ∷ on 64 1 (2 ∷ 1 ∷ 1 ∷ 5 ∷ []) p8 0 0
-    ∷ on 64 1 (1 ∷ 5 ∷ []) p9 1 0 ∷ on 64 3 (1 ∷ 5 ∷ []) p10 0 0 ∷ last ∷ []
+    ∷ on 64 1 (1 ∷ 5 ∷ []) p9 1 0 ∷ on 64 3 (1 ∷ 5 ∷ []) p10 0 0 ∷ on 64 1 (3 ∷ 7 ∷ []) p13 0 0 ∷ last ∷ []
 
 pub examples : AllAgree cases
 unfolding freshAccount kindNamed accountAt startedAccount stoppedAccount updatedAccount canState differs showsBy reportEvent reportedAccount callsFor stateEvent
@@ -120,7 +120,7 @@ examples = (
                     (refl, record { taken = refl; discards = refl; failures = refl; tells = refl; fails = refl }),
                     (
                       (refl, record { taken = refl; discards = refl; failures = refl; tells = refl; fails = refl }),
-                      tt,
+                      ((refl, record { taken = refl; discards = refl; failures = refl; tells = refl; fails = refl }), tt),
                     ),
                   ),
                 ),

@@ -10,4 +10,5 @@ late-cause-spec = tie.close (tie.spec
     (λ c κs. search needs)
     (λ c κs. search needs)
     (λ c κs. search needs)
-    (λ c. rw (c .first2 .ensures, c .before .passes .ensures, c .before .before .first .ensures, c .before .before .before .too-big .ensures)))
+    (λ c κs. search needs)
+    (λ c. rw (c .first2 .ensures, c .before .passes .ensures, c .before .before .filtered .ensures, c .before .before .before .first .ensures, c .before .before .before .before .too-big .ensures)))

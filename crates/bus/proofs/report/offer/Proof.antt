@@ -8,4 +8,5 @@ unfolding offerOf
 offer-spec = tie.close (tie.spec
     (λ c κs. search needs)
     (λ c κs. search needs)
-    (λ c. rw (c .before .due .ensures, c .before .before .note .ensures)))
+    (λ c κs. search needs)
+    (λ c. rw (c .insists .ensures, c .before .due .ensures, c .before .before .note .ensures)))

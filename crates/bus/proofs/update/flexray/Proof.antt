@@ -11,4 +11,4 @@ unfolding flexrayUpdate
 flexray-spec = tie.close (tie.spec
     (λ c. search needs)
     (λ c. omega (arith, and-mask (c .args .bits) 6))
-    (λ c. rw (flexray-made (c .args .online) (c .args .bits), and-mask (c .args .bits) 1)))
+    (λ c. rw (flexray-made (c .args .online) (c .args .bits), and-mask (c .args .bits) 4)))

@@ -13,8 +13,9 @@ unfolding flexrayIdent
 flexray-ident-spec =
     tie.close
     (tie.spec
-    (λ c. simp (unmarked (c .before .args .front / 8) (c .if1 .taken)))
-    (λ c. omega (arith, and-mask (c .before .args .front) 3))
+    (λ c. omega (arith, and-mask (c .args .front) 3))
     (λ c κs. search needs)
-    (λ c. simp (marked (c .before .before .before .args .front / 8) (c .before .before .if1 .left), ← slot-sum (c .before .before .before .args .front) (c .before .before .before .args .low) (omega arith), sym (c .before .flexray-range .ensures) ∙ c .if2 .taken))
-    (λ c. simp (marked (c .before .before .before .args .front / 8) (c .before .before .if1 .left), ← slot-sum (c .before .before .before .args .front) (c .before .before .before .args .low) (omega arith), sym (c .before .flexray-range .ensures) ∙ c .if2 .left)))
+    (λ c. c .frame-ident .ensures ∙ simp (marked (c .before .before .args .front / 8) (c .before .if1 .taken), ← slot-sum (c .before .before .args .front) (c .before .before .args .low) (omega arith)))
+    (λ c κs. search needs)
+    (λ c. c .error-ident .ensures ∙ simp (unmarked (c .before .before .before .args .front / 8) (c .before .before .if1 .left), ← and-mask (c .before .before .before .args .front / 8) 3, c .before .if2 .taken, ← slot-sum (c .before .before .before .args .front) (c .before .before .before .args .low) (omega arith)))
+    (λ c. simp (unmarked (c .before .before .args .front / 8) (c .before .if1 .left), ← and-mask (c .before .before .args .front / 8) 3, c .if2 .left)))

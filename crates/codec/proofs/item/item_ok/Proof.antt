@@ -15,4 +15,4 @@ item-ok-spec =
     (λ c κs. search needs)
     (λ c κs. search needs)
     (λ c κs. search needs)
-    (λ c. rw (c .load-ok .ensures, c .before .most-of .ensures .is, c .before .before .ident-ok .ensures, c .before .before .before .state-ok .ensures, c .before .before .before .before .kind-of .ensures, c .before .before .before .before .before .set-ok .ensures, c .before .before .before .before .before .before .set-of .ensures .is)))
+    (λ c. rw (c .load-ok .ensures, c .before .most-of .ensures .is, c .before .before .ident-ok .ensures, c .before .before .before .state-ok .ensures, c .before .before .before .before .kind-of .ensures, c .before .before .before .before .before .set-for .ensures, c .before .before .before .before .before .before .set-of .ensures .is)))

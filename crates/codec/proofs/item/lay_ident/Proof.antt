@@ -4,7 +4,7 @@ use lib.ListN.{length, length-set}
 use Rattle.codec.specs.declared.ident.Ident.{Ident}
 use Rattle.codec.specs.Ident.{identBytes, identOk}
 use Rattle.codec.proofs.NumberLaws.{laid, laid-by, laid-none}
-use Rattle.codec.proofs.ItemLaws.{flexray-in}
+use Rattle.codec.proofs.ItemLaws.{channels-in, flexray-in}
 use borrow.Author.Needs.{needs}
 use native.Mathlib.Omega.{arith}
 use Rattle.codec.proofs.item.lay_ident.Statement.{statement}
@@ -32,6 +32,14 @@ lay-ident-spec =
     (λ c. simp length-set (omega (arith, ap (λ (x : Ident). length (identBytes x)) (c .before .before .before .ident3 .given .1))))
     (λ c. search needs)
     (λ c. search needs)
+    (λ c κs. channels-in _ (sym (ap identOk (c .before .ident4 .given .1)) ∙ c .before .before .before .before .pre .1) .1)
+    (λ c. omega (arith, ap (λ (x : Ident). length (identBytes x)) (c .before .before .ident4 .given .1)))
+    (λ c. search needs)
+    (λ c. simp length-set (omega (arith, ap (λ (x : Ident). length (identBytes x)) (c .before .before .ident4 .given .1))))
+    (λ c. search needs)
+    (λ c. simp length-set (omega (arith, ap (λ (x : Ident). length (identBytes x)) (c .before .before .ident4 .given .1))))
+    (λ c. search needs)
+    (λ c. search needs)
     (λ c. search needs)
     (λ c. laid-by (c .before .before .put-be .ensures) (ap identBytes (c .before .before .before .before .before .ident .given .1)) (c .before .before .before .before .before .before .before .before .pre .0))
     (λ c. search needs)
@@ -40,4 +48,6 @@ lay-ident-spec =
     (λ c.
     let f = c .before .before .before .ident3 .given in
     laid (c .before .flexray-front .result) (c .low8 .result ∷ f .0 .1 .1 .0 ∷ []) (cc (ap identBytes (f .1))) (c .before .before .before .before .before .before .pre .0))
+    (λ c. search needs)
+    (λ c. laid (c .error-front .result) (0 ∷ 0 ∷ []) (cc (ap identBytes (c .before .before .ident4 .given .1))) (c .before .before .before .before .before .pre .0))
     (λ c. laid-none (ap identBytes (c .enum-told .given .1))))

@@ -21,6 +21,9 @@ passes-spec = tie.close (tie.spec
     (λ c. search needs)
     (λ c. let ps = c .before .before .before .args .self .places in
     sym (ap (passes ps) (c .enum-told .given .1) ∙ passes-none ps _ (λ f. refl)))
+    (λ c. search needs)
+    (λ c. let ps = c .before .before .before .args .self .places in
+    sym (ap (passes ps) (c .enum-told2 .given .1) ∙ passes-none ps _ (λ f. refl)))
     (λ c κs. search needs)
     (λ c. let ps = c .before .before .before .args .self .places in
     c .key-passes .ensures ∙ ⊎-elim
