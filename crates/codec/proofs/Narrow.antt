@@ -217,34 +217,34 @@ module _ (s : List ℕ) (ticks set network : ℕ) (state : State) where
   after-wider narrow wide (inr (a, e, u)) = inr (ap (λ (r : IdentRead). openIdent r after) e, new-after a wide u)
 
 -- what precedes it
-in16 : (r : Read16) (k l : ℕ → ℕ → ItemRead) → ((v n : ℕ) → Wider (k v n) (l v n))
+wider16 : (r : Read16) (k l : ℕ → ℕ → ItemRead) → ((v n : ℕ) → Wider (k v n) (l v n))
     → Wider (open16 r k (ItemRead.Refused Refusal.Missing)) (open16 r l (ItemRead.Refused Refusal.Missing))
-in16 (Read16.Got v n) k l w = w v n
-in16 Read16.Short k l w = inl (refl, tt)
+wider16 (Read16.Got v n) k l w = w v n
+wider16 Read16.Short k l w = inl (refl, tt)
 
-in8 : (r : Read8) (k l : ℕ → ℕ → ItemRead) → ((v n : ℕ) → Wider (k v n) (l v n))
+wider8 : (r : Read8) (k l : ℕ → ℕ → ItemRead) → ((v n : ℕ) → Wider (k v n) (l v n))
     → Wider (open8 r k (ItemRead.Refused Refusal.Missing)) (open8 r l (ItemRead.Refused Refusal.Missing))
-in8 (Read8.Got v n) k l w = w v n
-in8 Read8.Short k l w = inl (refl, tt)
+wider8 (Read8.Got v n) k l w = w v n
+wider8 Read8.Short k l w = inl (refl, tt)
 
-inFlags : (r : FlagsRead) (k l : Kind → ℕ → ℕ → ItemRead) → ((kind : Kind) (set n : ℕ) → Wider (k kind set n) (l kind set n))
+widerFlags : (r : FlagsRead) (k l : Kind → ℕ → ℕ → ItemRead) → ((kind : Kind) (set n : ℕ) → Wider (k kind set n) (l kind set n))
     → Wider (openFlags r k) (openFlags r l)
-inFlags (FlagsRead.Got kind set n) k l w = w kind set n
-inFlags (FlagsRead.Refused why) k l w = inl (refl, tt)
+widerFlags (FlagsRead.Got kind set n) k l w = w kind set n
+widerFlags (FlagsRead.Refused why) k l w = inl (refl, tt)
 
-inState : (r : StateRead) (k l : State → ℕ → ItemRead) → ((state : State) (n : ℕ) → Wider (k state n) (l state n))
+widerState : (r : StateRead) (k l : State → ℕ → ItemRead) → ((state : State) (n : ℕ) → Wider (k state n) (l state n))
     → Wider (openState r k) (openState r l)
-inState (StateRead.Got state n) k l w = w state n
-inState (StateRead.Refused why) k l w = inl (refl, tt)
+widerState (StateRead.Got state n) k l w = w state n
+widerState (StateRead.Refused why) k l w = inl (refl, tt)
 
 -- at any place of any numbers: the same is read as in the narrow layout; or that gave 25, and an error without a frame is read or 29 given
 pub item-wider : (s : List ℕ) (at : ℕ) → Wider (narrowItem s at) (readItem s at)
 unfolding narrowItem readItem
 item-wider s at =
-    in16 (get16Of s at) _ _ (λ ticks a.
-    inFlags (readFlags s a) _ _ (λ kind set b.
-    in8 (get8Of s b) _ _ (λ network d.
-    inState (readState s d kind (eqb (set / 4 % 2) 1)) _ _ (λ state e.
+    wider16 (get16Of s at) _ _ (λ ticks a.
+    widerFlags (readFlags s a) _ _ (λ kind set b.
+    wider8 (get8Of s b) _ _ (λ network d.
+    widerState (readState s d kind (eqb (set / 4 % 2) 1)) _ _ (λ state e.
     after-wider s ticks set network state _ _ (ident-wider s e kind (eqb (set / 2 % 2) 1) (aloneIn set))))))
 
 -- what an error without a frame is in a frame: its channels, a state and nothing else
