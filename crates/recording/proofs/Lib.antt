@@ -1,0 +1,9 @@
+pub mod FieldLaws
+pub mod PlaceLaws
+pub mod WriteLaws
+pub mod FileLaws
+pub mod HeldLaws
+pub mod InPieces
+pub mod RoundTrip
+pub mod Unique
+pub mod Vectors

@@ -1,0 +1,5 @@
+pub mod File
+pub mod Write
+pub mod Pieces
+pub mod Calls
+pub mod Trip
