@@ -1,12 +1,9 @@
 -- How each answer reads.
-use Prim.Native.Nat.{ℕ, _+_, _*_, _≤_}
-use mathlib.Core.Path.{_≡_}
+use Prim.Native.Nat.{ℕ, _*_}
 use mathlib.Core.Bool.{Bool, true, false}
 use mathlib.Core.List.{List, [], _∷_, _++_}
-use lib.ListN.{length}
 use lib.Dec.{eqb}
 use Rattle.codec.specs.Choice.{pick}
-use Rattle.codec.specs.Number.{Laid}
 use Rattle.codec.specs.Refusal.{numberOf}
 use Rattle.codec.specs.Ident.{networkType, kindOf}
 use Rattle.codec.specs.declared.time.Time.{Time}
@@ -20,13 +17,6 @@ use Rattle.reader.specs.Answer.{judgedNumber, judgedHeader}
 use Rattle.reader.specs.declared.frame.Judged.{Judged}
 use Rattle.reader.specs.declared.place.Stepped.{Stepped}
 use Rattle.reader.specs.declared.place.Stepped.the-variants as Stepped
-
--- bs, at most k of them, stand at index at, and r is the index past them
-pub record Short (k : ℕ) (l : List ℕ) (at : ℕ) (bs : List ℕ) (l' : List ℕ) (r : ℕ) : Type 0 where
-  pub laid : Laid l at bs l' r
-  pub most : r ≤ at + k
-  pub fits : at + length bs ≤ length l
-  pub kept : length l' ≡ length l
 
 -- a space (32) and a number
 unfoldable pub fieldText : ℕ → List ℕ

@@ -1,4 +1,5 @@
 pub mod Word
 pub mod Call
+pub mod Tape
 pub mod Pairs
 pub mod Answer

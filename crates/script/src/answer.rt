@@ -15,7 +15,8 @@ ghost use Prim.Native.Nat.{_+_, _/_, _≤_};
 ghost use lib.ListN.{length};
 ghost use Rattle.codec.specs.Number.{Wrote};
 ghost use Rattle.text.specs.Put.{decimalOf, hexOf};
-ghost use Rattle.script.specs.Answer.{Short, fieldText, timeText, stateText, flexrayText, errorText, identText, loadText, placedText, itemText, judgedText, steppedText, badText, numberedText, backText, timedText, bytesText, takenText, hexSize};
+ghost use Rattle.text.specs.Short.{Short};
+ghost use Rattle.script.specs.Answer.{fieldText, timeText, stateText, flexrayText, errorText, identText, loadText, placedText, itemText, judgedText, steppedText, badText, numberedText, backText, timedText, bytesText, takenText, hexSize};
 
 fn lay(out: &mut [u8], at: usize, s: &[u8]) -> usize
     requires { ⌜ at + length (now s) ≤ length (now out) ⌝ }

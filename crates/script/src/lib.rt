@@ -4,4 +4,5 @@ pub mod call;
 mod long;
 pub mod pairs;
 mod short;
+pub mod tape;
 mod word;

@@ -6,3 +6,4 @@ pub mod BytesLaws
 pub mod Unique
 pub mod RoundTrip
 pub mod Vectors
+pub mod ShortLaws

@@ -71,7 +71,7 @@ spelling-first text v n =
     record { most = omega arith; size = n; left = rw (drop-of-length-le text {i = 20} (omega arith), append-nil) }
 
 -- a store at the place before what stands at the end
-stored : (text : List ℕ) (j b : ℕ) → j < length text → drop j (set text j b) ≡ b ∷ drop (suc j) text
+pub stored : (text : List ℕ) (j b : ℕ) → j < length text → drop j (set text j b) ≡ b ∷ drop (suc j) text
 stored text j b h =
     drop-cons (set text j b) j 0 (simp length-set h) ∙ rw (getD-set-same text j b 0 h, drop-set-lt (suc j) text j b (omega arith))
 

@@ -3,3 +3,4 @@ pub mod Number
 pub mod Put
 pub mod Line
 pub mod Bytes
+pub mod Short

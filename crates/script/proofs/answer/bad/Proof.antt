@@ -1,4 +1,4 @@
-use Rattle.script.proofs.AnswerLaws.{front-is, front-length}
+use Rattle.text.proofs.ShortLaws.{front-is, front-length}
 use borrow.Author.Needs.{needs}
 use Rattle.script.proofs.answer.bad.Statement.{statement}
 use Rattle.script.proofs.answer.bad.Tie as tie

@@ -1,7 +1,8 @@
 use denote.Ref.{now}
 use lib.ListN.{length}
 use Rattle.codec.proofs.NumberLaws.{full}
-use Rattle.script.proofs.AnswerLaws.{bytes-length, size-least, after-front, hex-length}
+use Rattle.text.proofs.ShortLaws.{after-front}
+use Rattle.script.proofs.AnswerLaws.{bytes-length, size-least, hex-length}
 use borrow.Author.Needs.{needs}
 use native.Mathlib.Omega.{arith}
 use Rattle.script.proofs.answer.before_bytes.Statement.{statement}

@@ -1,5 +1,5 @@
 use mathlib.Core.Path.{sym, ap}
-use Rattle.script.proofs.AnswerLaws.{short-as}
+use Rattle.text.proofs.ShortLaws.{short-as}
 use Rattle.script.specs.Answer.{identText}
 use borrow.Author.Needs.{needs}
 use native.Mathlib.Omega.{arith}

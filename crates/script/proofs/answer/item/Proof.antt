@@ -1,5 +1,5 @@
 use mathlib.Core.Path.{ap, _∙_}
-use Rattle.script.proofs.AnswerLaws.{short-then, short-is}
+use Rattle.text.proofs.ShortLaws.{short-then, short-is}
 use Rattle.script.specs.Answer.{itemText, fieldText}
 use Rattle.codec.specs.Ident.{networkType}
 use borrow.Author.Needs.{needs}

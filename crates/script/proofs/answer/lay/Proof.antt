@@ -1,4 +1,4 @@
-use Rattle.script.proofs.AnswerLaws.{short-put}
+use Rattle.text.proofs.ShortLaws.{short-put}
 use borrow.Author.Needs.{needs}
 use native.Mathlib.Omega.{arith}
 use Rattle.script.proofs.answer.lay.Statement.{statement}

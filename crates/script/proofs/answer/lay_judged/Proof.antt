@@ -1,4 +1,4 @@
-use Rattle.script.proofs.AnswerLaws.{short-then, short-as}
+use Rattle.text.proofs.ShortLaws.{short-then, short-as}
 use Rattle.script.specs.Answer.{judgedText}
 use borrow.Author.Needs.{needs}
 use native.Mathlib.Omega.{arith}

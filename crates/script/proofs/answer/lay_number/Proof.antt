@@ -1,4 +1,4 @@
-use Rattle.script.proofs.AnswerLaws.{short-then}
+use Rattle.text.proofs.ShortLaws.{short-then}
 use borrow.Author.Needs.{needs}
 use Rattle.script.proofs.answer.lay_number.Statement.{statement}
 use Rattle.script.proofs.answer.lay_number.Tie as tie

@@ -1,6 +1,6 @@
 use mathlib.Core.Path.{sym, ap}
 use mathlib.Core.Bool.{Bool}
-use Rattle.script.proofs.AnswerLaws.{short-as}
+use Rattle.text.proofs.ShortLaws.{short-as}
 use Rattle.script.specs.Answer.{loadText}
 use borrow.Author.Needs.{needs}
 use native.Mathlib.Omega.{arith}

@@ -1,4 +1,4 @@
-use Rattle.script.proofs.AnswerLaws.{put-next, put-nothing}
+use Rattle.text.proofs.ShortLaws.{put-next, put-nothing}
 use Rattle.text.proofs.PutLaws.{decimal-length}
 use borrow.Author.Needs.{needs}
 use Rattle.script.proofs.answer.number.Statement.{statement}

@@ -1,4 +1,4 @@
-use Rattle.script.proofs.AnswerLaws.{front-is, front-length}
+use Rattle.text.proofs.ShortLaws.{front-is, front-length}
 use Rattle.script.specs.Answer.{takenText}
 use borrow.Author.Needs.{needs}
 use Rattle.script.proofs.answer.taken.Statement.{statement}

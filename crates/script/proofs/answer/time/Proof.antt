@@ -1,4 +1,4 @@
-use Rattle.script.proofs.AnswerLaws.{short-then}
+use Rattle.text.proofs.ShortLaws.{short-then}
 use Rattle.script.specs.Answer.{timeText}
 use borrow.Author.Needs.{needs}
 use Rattle.script.proofs.answer.time.Statement.{statement}

@@ -1,4 +1,4 @@
-use Rattle.script.proofs.AnswerLaws.{front-is, front-length}
+use Rattle.text.proofs.ShortLaws.{front-is, front-length}
 use Rattle.script.specs.Answer.{timedText}
 use borrow.Author.Tests.{eq-eqb, ne-eqb}
 use borrow.Author.Needs.{needs}

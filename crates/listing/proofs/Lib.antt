@@ -1,0 +1,6 @@
+pub mod FixedLaws
+pub mod SpreadLaws
+pub mod EscapeLaws
+pub mod ItemLaws
+pub mod Unique
+pub mod Vectors

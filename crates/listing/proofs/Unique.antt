@@ -1,0 +1,31 @@
+-- Any two outcomes that a public function's own contract permits coincide.
+use mathlib.Core.Path.{_≡_, sym, _∙_}
+use denote.Ref.{now}
+use Rattle.listing.proofs.line.frame.Reads as frame
+use Rattle.listing.proofs.line.item.Reads as item
+use Rattle.listing.proofs.escape.note.Reads as note
+use Rattle.listing.proofs.line.start.Reads as start
+use Rattle.listing.proofs.line.refused.Reads as refused
+use Rattle.listing.proofs.line.skipped.Reads as skipped
+use Rattle.listing.proofs.line.end.Reads as end
+
+pub frame-unique : (κs : _) (a : _) (r r′ : _) (x x′ : _) → frame.Post κs a r x → frame.Post κs a r′ x′ → (r ≡ r′) × (now (x .0) ≡ now (x′ .0))
+frame-unique κs a r r′ x x′ p q = (p .answer ∙ sym (q .answer), p .list ∙ sym (q .list))
+
+pub item-unique : (κs : _) (a : _) (r r′ : _) (x x′ : _) → item.Post κs a r x → item.Post κs a r′ x′ → (r ≡ r′) × (now (x .0) ≡ now (x′ .0))
+item-unique κs a r r′ x x′ p q = (p .answer ∙ sym (q .answer), p .list ∙ sym (q .list))
+
+pub note-unique : (κs : _) (a : _) (r r′ : _) (x x′ : _) → note.Post κs a r x → note.Post κs a r′ x′ → (r ≡ r′) × (now (x .0) ≡ now (x′ .0))
+note-unique κs a r r′ x x′ p q = (p .answer ∙ sym (q .answer), p .list ∙ sym (q .list))
+
+pub start-unique : (κs : _) (a : _) (r r′ : _) (x x′ : _) → start.Post κs a r x → start.Post κs a r′ x′ → (r ≡ r′) × (now (x .0) ≡ now (x′ .0))
+start-unique κs a r r′ x x′ p q = (p .answer ∙ sym (q .answer), p .list ∙ sym (q .list))
+
+pub refused-unique : (κs : _) (a : _) (r r′ : _) (x x′ : _) → refused.Post κs a r x → refused.Post κs a r′ x′ → (r ≡ r′) × (now (x .0) ≡ now (x′ .0))
+refused-unique κs a r r′ x x′ p q = (p .answer ∙ sym (q .answer), p .list ∙ sym (q .list))
+
+pub skipped-unique : (κs : _) (a : _) (r r′ : _) (x x′ : _) → skipped.Post κs a r x → skipped.Post κs a r′ x′ → (r ≡ r′) × (now (x .0) ≡ now (x′ .0))
+skipped-unique κs a r r′ x x′ p q = (p .answer ∙ sym (q .answer), p .list ∙ sym (q .list))
+
+pub end-unique : (κs : _) (a : _) (r r′ : _) (x x′ : _) → end.Post κs a r x → end.Post κs a r′ x′ → (r ≡ r′) × (now (x .0) ≡ now (x′ .0))
+end-unique κs a r r′ x x′ p q = (p .answer ∙ sym (q .answer), p .list ∙ sym (q .list))
