@@ -150,3 +150,10 @@ uses-most p buffer piece = rw (used-is p buffer piece) (used-most (placeOf p pie
 pub uses-some : (p : Place) (buffer piece : List ℕ) → 1 ≤ length piece → 1 ≤ nextOf p buffer piece .used
 unfolding usedOf
 uses-some p buffer piece h = let k = place-short p piece in rw (used-is p buffer piece) (omega arith)
+
+-- the same as a caller has it
+pub step-most : {r : Step} (p : Place) (buffer piece : List ℕ) → r ≡ nextOf p buffer piece → r .used ≤ length piece
+step-most p buffer piece e = rw e (uses-most p buffer piece)
+
+pub step-some : {r : Step} (p : Place) (buffer piece : List ℕ) → r ≡ nextOf p buffer piece → 1 ≤ length piece → 1 ≤ r .used
+step-some p buffer piece e h = rw e (uses-some p buffer piece h)

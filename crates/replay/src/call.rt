@@ -56,10 +56,7 @@ fn with_bytes(engine: Engine, call: Call, bytes: &[u8], out: &mut [u8], at: usiz
             out,
             at,
         ),
-        _ => Made {
-            engine,
-            put: crate::read::make(call, bytes, out, at),
-        },
+        _ => crate::engine::answered(engine, crate::read::make(call, bytes, out, at)),
     }
 }
 
@@ -73,7 +70,7 @@ pub(crate) fn answer(
     let call = script::call::parse(line);
     let k = bytes_word(call);
     if k == 0 {
-        return crate::engine::make(engine, call, line, out, at);
+        return crate::engine::make(engine, call, line, frame, out, at);
     }
     let Bytes::Are(n) = text::bytes::read(text::line::word(line, k), frame) else {
         return crate::engine::no_call(engine);

@@ -9,58 +9,63 @@ use script::pairs::Pairs;
 ghost use mathlib.Core.Path.{_≡_};
 ghost use lib.ListN.{length};
 
-// Nothing is put where the line is no call.
+// Nothing is put where the line is no call. The frame that a take handed out stands at the front of the
+// buffer of frames, so many bytes of it.
 pub(crate) struct Made {
     pub(crate) engine: Engine,
     pub(crate) put: Put,
+    pub(crate) taken: usize,
+}
+
+pub(crate) fn answered(engine: Engine, put: Put) -> Made {
+    Made {
+        engine,
+        put,
+        taken: 0,
+    }
 }
 
 pub(crate) fn no_call(engine: Engine) -> Made {
-    Made {
-        engine,
-        put: Put::Nothing,
-    }
+    answered(engine, Put::Nothing)
 }
 
 fn fresh(out: &mut [u8], at: usize) -> Made {
-    Made {
-        engine: mirror::engine::fresh(),
-        put: script::answer::done(out, at, 0),
-    }
+    answered(mirror::engine::fresh(), script::answer::done(out, at, 0))
 }
 
 pub(crate) fn done(outcome: Outcome, out: &mut [u8], at: usize) -> Made {
-    let engine = outcome.engine;
-    Made {
-        engine,
-        put: script::answer::done(out, at, outcome.answer),
-    }
+    answered(
+        outcome.engine,
+        script::answer::done(out, at, outcome.answer),
+    )
 }
 
 // A report or a tick.
 pub(crate) fn timed(outcome: Timed, out: &mut [u8], at: usize) -> Made {
-    let engine = outcome.engine;
     let back = outcome.back;
-    Made {
-        engine,
-        put: script::answer::timed(out, at, outcome.answer, back),
-    }
+    answered(
+        outcome.engine,
+        script::answer::timed(out, at, outcome.answer, back),
+    )
 }
 
 // A count that is asked for.
 fn counted(engine: Engine, counted: Counted, out: &mut [u8], at: usize) -> Made {
-    Made {
+    answered(
         engine,
-        put: script::answer::numbered(out, at, counted.answer, counted.count as u64),
-    }
+        script::answer::numbered(out, at, counted.answer, counted.count as u64),
+    )
 }
 
-fn take_in(engine: Engine, room: &mut [u8], out: &mut [u8], at: usize) -> Made {
+fn take_in(engine: Engine, room: &mut [u8], frame: &mut [u8], out: &mut [u8], at: usize) -> Made {
     let taken = engine.take(room);
     let after = taken.engine;
+    let length = taken.length;
+    codec::number::put_bytes(frame, 0, text::part::front(room, length));
     Made {
         engine: after,
-        put: script::answer::taken(out, at, taken.answer, taken.length as u64, room),
+        put: script::answer::taken(out, at, taken.answer, length as u64, room),
+        taken: length,
     }
 }
 
@@ -71,12 +76,12 @@ fn untouched() -> [u8; 2048]
     [0xEE; 2048]
 }
 
-fn take(engine: Engine, size: usize, out: &mut [u8], at: usize) -> Made {
+fn take(engine: Engine, size: usize, frame: &mut [u8], out: &mut [u8], at: usize) -> Made {
     if 2048 < size {
         return no_call(engine);
     }
     let mut room = untouched();
-    take_in(engine, &mut room[..size], out, at)
+    take_in(engine, &mut room[..size], frame, out, at)
 }
 
 // The numbers that a line has, or all where it has more: a caller needs no bound on n.
@@ -106,14 +111,21 @@ fn setup(
 }
 
 // The calls of the whole engine; those of one source are made apart.
-pub(crate) fn make(engine: Engine, call: Call, line: &[u8], out: &mut [u8], at: usize) -> Made {
+pub(crate) fn make(
+    engine: Engine,
+    call: Call,
+    line: &[u8],
+    frame: &mut [u8],
+    out: &mut [u8],
+    at: usize,
+) -> Made {
     match call {
         Call::New => fresh(out, at),
         Call::Offline => done(engine.offline(), out, at),
         Call::Failed => done(engine.failed(), out, at),
         Call::Discards => counted(engine, engine.discards(), out, at),
         Call::Failures => counted(engine, engine.failures(), out, at),
-        Call::Take(size) => take(engine, size as usize, out, at),
+        Call::Take(size) => take(engine, size as usize, frame, out, at),
         Call::Tick(time) => timed(engine.tick(time), out, at),
         Call::Setup {
             size,

@@ -5,11 +5,10 @@ use mirror::source::Added;
 use script::call::Call;
 
 fn added(a: Added, out: &mut [u8], at: usize) -> Made {
-    let engine = a.engine;
-    Made {
-        engine,
-        put: script::answer::numbered(out, at, a.answer, a.number as u64),
-    }
+    crate::engine::answered(
+        a.engine,
+        script::answer::numbered(out, at, a.answer, a.number as u64),
+    )
 }
 
 fn add(engine: Engine, call: Call, out: &mut [u8], at: usize) -> Made {
