@@ -56,16 +56,23 @@ fn answers_to(recording: bool) -> i32 {
     }
 }
 
-// The recording first: no answer is seen of a field that is not.
+// The recording first, and no answer where that fails: none is seen of a field that is not there.
+fn written_both(told: Told, out: &[u8], tape: &[u8], recording: bool) -> bool {
+    if !io::write_all(STDOUT_FILENO, text::part::front(tape, told.taped)) {
+        return false;
+    }
+    io::write_all(answers_to(recording), text::part::front(out, told.at))
+}
+
+// After a failure nothing more is written: what is there stays whole up to it.
 fn flush(told: Told, out: &[u8], tape: &[u8], recording: bool) -> Told {
     let engine = told.engine;
-    let kept = io::write_all(STDOUT_FILENO, text::part::front(tape, told.taped));
-    let said = io::write_all(answers_to(recording), text::part::front(out, told.at));
+    let failed = told.failed || !written_both(told, out, tape, recording);
     Told {
         engine,
         at: 0,
         taped: 0,
-        failed: told.failed | !kept | !said,
+        failed,
     }
 }
 

@@ -4,7 +4,7 @@
 mod bad;
 mod calls;
 mod clock;
-mod damage;
+pub mod damage;
 mod draft;
 mod edges;
 mod episode;
@@ -19,11 +19,11 @@ mod opening;
 mod order;
 mod pid_frames;
 mod pid_reports;
-mod raw;
+pub mod raw;
 mod scene;
-mod sheet;
+pub mod sheet;
 mod sweep;
-mod valid;
+pub mod valid;
 
 use crate::random::Random;
 use sheet::Sheet;
@@ -59,6 +59,15 @@ pub fn make(seed: u64, lines: usize) -> Vec<u8> {
     let lines = lines.max(sheet.lines() + LEAST_MIX);
     while sheet.lines() < lines {
         mixed(&mut sheet, &mut random);
+    }
+    sheet.into_bytes()
+}
+
+/// The mix alone, for whoever puts lines of his own between.
+pub fn mix(random: &mut Random, lines: usize) -> Vec<u8> {
+    let mut sheet = Sheet::default();
+    while sheet.lines() < lines {
+        mixed(&mut sheet, random);
     }
     sheet.into_bytes()
 }
