@@ -1,4 +1,5 @@
 // The recording in the pieces that reading gives.
+use codec::number::Put;
 use libc::STDERR_FILENO;
 use libc::STDIN_FILENO;
 use libc::STDOUT_FILENO;
@@ -27,6 +28,14 @@ fn fail(what: &[u8]) {
     io::write_all(STATUS, b"1\n");
 }
 
+// Where writing goes on.
+fn past(put: Put, at: usize) -> usize {
+    match put {
+        Put::Next(end) => end,
+        Put::Nothing => at,
+    }
+}
+
 // The lines of one field are under 32,768 bytes, so that they fit after 65,536.
 fn roomy(told: Told, out: &[u8]) -> Told {
     if told.at <= 65536 {
@@ -37,10 +46,11 @@ fn roomy(told: Told, out: &[u8]) -> Told {
 
 fn written(told: Told, out: &[u8]) -> Told {
     let place = told.place;
+    let failed = told.failed || !io::write_all(STDOUT_FILENO, text::part::front(out, told.at));
     Told {
         place,
         at: 0,
-        failed: told.failed | !io::write_all(STDOUT_FILENO, text::part::front(out, told.at)),
+        failed,
     }
 }
 
@@ -51,7 +61,7 @@ fn found(told: Told, seen: Seen, body: &[u8], out: &mut [u8]) -> Told {
             let place = roomy.place;
             Told {
                 place,
-                at: crate::field::lines(field, body, out, roomy.at),
+                at: listing::lines(out, roomy.at, field, body),
                 failed: roomy.failed,
             }
         }
@@ -89,9 +99,9 @@ fn tell(before: u64, read: u64) {
         return;
     }
     let mut line = [0u8; 64];
-    let a = crate::field::past(codec::number::put_bytes(&mut line, 0, b"list: "), 0);
-    let b = crate::field::past(text::put::decimal(&mut line, a, read / 1048576), a);
-    let d = crate::field::past(
+    let a = past(codec::number::put_bytes(&mut line, 0, b"list: "), 0);
+    let b = past(text::put::decimal(&mut line, a, read / 1048576), a);
+    let d = past(
         codec::number::put_bytes(&mut line, b, b" MiB of the recording are listed\n"),
         b,
     );
@@ -108,7 +118,7 @@ fn over(place: Place, read: u64) -> State {
 
 fn last(out: &mut [u8], place: Place, read: u64) -> State {
     let answer = recording::pieces::finish(place);
-    let at = crate::field::past(listing::end(out, 0, answer, place.skipped), 0);
+    let at = past(listing::end(out, 0, answer, place.skipped), 0);
     if !io::write_all(STDOUT_FILENO, text::part::front(out, at)) {
         fail(b"list: writing the listing");
     }

@@ -1,5 +1,4 @@
 // Lists a recording from standard input, in the pieces that reading gives, on standard output.
-mod field;
 mod input;
 
 // What is kept from piece to piece is lent from here, since there is no heap: the body of the field under

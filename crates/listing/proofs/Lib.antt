@@ -4,3 +4,4 @@ pub mod EscapeLaws
 pub mod ItemLaws
 pub mod Unique
 pub mod Vectors
+pub mod LinesLaws

@@ -1,5 +1,5 @@
 -- Any two outcomes that a public function's own contract permits coincide.
-use mathlib.Core.Path.{_≡_, sym, _∙_}
+use mathlib.Core.Path.{_≡_, sym, _∙_, ap}
 use denote.Ref.{now}
 use Rattle.listing.proofs.line.frame.Reads as frame
 use Rattle.listing.proofs.line.item.Reads as item
@@ -8,6 +8,8 @@ use Rattle.listing.proofs.line.start.Reads as start
 use Rattle.listing.proofs.line.refused.Reads as refused
 use Rattle.listing.proofs.line.skipped.Reads as skipped
 use Rattle.listing.proofs.line.end.Reads as end
+use Rattle.listing.proofs.field.lines.Reads as lines
+use Rattle.listing.specs.Field.{Text}
 
 pub frame-unique : (κs : _) (a : _) (r r′ : _) (x x′ : _) → frame.Post κs a r x → frame.Post κs a r′ x′ → (r ≡ r′) × (now (x .0) ≡ now (x′ .0))
 frame-unique κs a r r′ x x′ p q = (p .answer ∙ sym (q .answer), p .list ∙ sym (q .list))
@@ -29,3 +31,6 @@ skipped-unique κs a r r′ x x′ p q = (p .answer ∙ sym (q .answer), p .list
 
 pub end-unique : (κs : _) (a : _) (r r′ : _) (x x′ : _) → end.Post κs a r x → end.Post κs a r′ x′ → (r ≡ r′) × (now (x .0) ≡ now (x′ .0))
 end-unique κs a r r′ x x′ p q = (p .answer ∙ sym (q .answer), p .list ∙ sym (q .list))
+
+pub lines-unique : (κs : _) (a : _) (r r′ : _) (x x′ : _) → lines.Post κs a r x → lines.Post κs a r′ x′ → (r ≡ r′) × (now (x .0) ≡ now (x′ .0))
+lines-unique κs a r r′ x x′ p q = (ap (λ (t : Text). t .at) (p ∙ sym q), ap (λ (t : Text). t .bytes) (p ∙ sym q))

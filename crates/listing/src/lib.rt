@@ -1,10 +1,12 @@
 // The lines of a listing: what the program that lists a recording writes of each thing that it finds.
 mod digit;
 mod escape;
+mod field;
 mod line;
 mod word;
 
 pub use escape::note;
+pub use field::lines;
 pub use line::end;
 pub use line::frame;
 pub use line::item;

@@ -1,0 +1,53 @@
+-- The lines of a field, one after another, in an output that may have no room for one.
+use Prim.Native.Nat.{ℕ, _+_}
+use mathlib.Core.List.{List, [], _∷_, map}
+use lib.ListN.{length, take}
+use Rattle.codec.specs.Choice.{pick}
+use Rattle.codec.specs.Number.{over, fits}
+use Rattle.codec.specs.Time.{recoveredOf}
+use Rattle.codec.specs.Layout.{Entry}
+use Rattle.codec.specs.declared.time.Time.{Time}
+use Rattle.codec.specs.declared.number.Put.{Put}
+use Rattle.codec.specs.declared.number.Put.the-variants as Put
+use Rattle.reader.specs.Frame.{itemsOf}
+use Rattle.recording.specs.declared.field.Found.{Found}
+use Rattle.recording.specs.declared.field.Found.the-variants as Found
+use Rattle.recording.specs.declared.field.Field.{Field}
+use Rattle.listing.specs.Line.{frameLine, itemLine, noteLine, startLine, refusedLine, skippedLine}
+
+-- an item of a frame with this header time
+abbrev pub entryLine : Time → Entry → List ℕ
+entryLine t e = itemLine (recoveredOf t (e .item .offset .0)) (e .item) (e .payload)
+
+-- the items of a frame from a place on, in order
+unfoldable pub itemLines : Time → List ℕ → ℕ → List (List ℕ)
+itemLines t s at = map (entryLine t) (itemsOf s at)
+
+-- the header's line and then the items'; of everything else one line
+abbrev pub foundLines : ℕ → ℕ → Found → List ℕ → List (List ℕ)
+foundLines tag n (Found.Frame h) body = frameLine h ∷ itemLines (h .time) body 14
+foundLines tag n Found.Note body = noteLine body ∷ []
+foundLines tag n (Found.Start t) body = startLine t ∷ []
+foundLines tag n (Found.Refused answer) body = refusedLine tag answer ∷ []
+foundLines tag n Found.Skipped body = skippedLine tag n ∷ []
+
+-- the body is the front of the buffer
+abbrev pub fieldLines : Field → List ℕ → List (List ℕ)
+fieldLines f buffer = foundLines (f .tag) (f .length) (f .found) (take (f .length) buffer)
+
+-- an output, and where writing goes on in it
+pub record Text : Type 0 where
+  pub bytes : List ℕ
+  pub at : ℕ
+
+-- a line is written where it fits, and else left out
+unfoldable pub with : Text → List ℕ → Text
+with t line = pick (fits (t .bytes) (t .at) (length line)) (record { bytes = over (t .bytes) (t .at) line; at = t .at + length line }) t
+
+abbrev pub withAll : Text → List (List ℕ) → Text
+withAll t [] = t
+withAll t (line ∷ lines) = withAll (with t line) lines
+
+abbrev pub pastOf : Put → ℕ → ℕ
+pastOf (Put.Next end) at = end
+pastOf Put.Nothing at = at
