@@ -1,17 +1,15 @@
 -- Lines written one after another, and the lines of a frame's items. Assumes nothing.
-use Prim.Native.Nat.{ℕ, zero, suc, _+_, _-_, _≤_, _<_}
+use Prim.Native.Nat.{ℕ, suc, _+_, _-_, _≤_, _<_}
 use mathlib.Core.Path.{_≡_, refl, sym, _∙_, ap}
 use mathlib.Core.Bool.{Bool, true, false}
-use mathlib.Core.List.{List, [], _∷_, map}
+use mathlib.Core.List.{List, [], _∷_}
 use native.Mathlib.Omega.{arith}
 use lib.ListN.{length}
-use lib.Dec.{eqb}
-use borrow.Author.Tests.{ne-eqb, eq-eqb}
+use borrow.Author.Tests.{ne-eqb}
 use Rattle.codec.specs.Choice.{pick}
 use Rattle.codec.specs.Number.{over, fits, Wrote}
 use Rattle.codec.specs.Time.{recoveredOf}
 use Rattle.codec.specs.Field.{readItem, bytesAt}
-use Rattle.codec.specs.Layout.{Entry}
 use Rattle.codec.specs.declared.time.Time.{Time}
 use Rattle.codec.specs.declared.item.Item.{Item}
 use Rattle.codec.specs.declared.number.Put.{Put}
@@ -22,7 +20,7 @@ use Rattle.codec.specs.declared.field.ItemRead.the-variants as ItemRead
 use Rattle.reader.specs.Frame.{along, itemsOf}
 use Rattle.reader.proofs.AlongLaws.{items-item}
 use Rattle.listing.specs.Line.{itemLine}
-use Rattle.listing.specs.Field.{Text, entryLine, itemLines, with, withAll, pastOf}
+use Rattle.listing.specs.Field.{Text, itemLines, with, withAll, pastOf}
 
 -- a line that was written where it fits, and where writing goes on
 pub wrote-with : {l l' : List ℕ} {at r : ℕ} {bs : List ℕ} {p : Put} → Wrote true l at bs l' p → r ≡ pastOf p at

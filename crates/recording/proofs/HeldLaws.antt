@@ -1,30 +1,27 @@
 -- What a place and the buffer hold of the field under way, and one call on it. Assumes nothing.
-use Prim.Native.Nat.{ℕ, zero, suc, _+_, _-_, _*_, _≤_, _<_, min}
+use Prim.Native.Nat.{ℕ, zero, suc, _+_, _-_, _≤_, _<_}
 use mathlib.Core.Path.{_≡_, refl, sym, _∙_, ap}
-use mathlib.Core.Bool.{Bool, true, false, _&&_, _||_}
-use mathlib.Core.List.{List, [], _∷_, _++_, append-assoc, append-nil}
+use mathlib.Core.Bool.{Bool, true, false, _&&_}
+use mathlib.Core.List.{List, [], _∷_, _++_}
 use native.Mathlib.Omega.{arith}
-use lib.ListN.{length, take, drop, getD, length-drop, length-append, length-take, drop-of-length-le}
-use lib.Seq.{drop-append-le, take-append-le, length-take-le, take-at, drop-append-add, take-append-add, take-nil, drop-nil, take-all}
-use lib.Dec.{ltb, leb, eqb}
-use borrow.Author.Tests.{le-leb, lt-leb, leb-true, leb-false, ltb-true, ltb-false, eqb-true, eqb-false, lt-ltb, le-ltb}
+use lib.ListN.{length, take, drop, getD, length-drop, length-append, drop-of-length-le}
+use lib.Seq.{length-take-le, take-at, drop-append-add, take-append-add, take-nil, take-all}
+use lib.Dec.{ltb, leb}
+use borrow.Author.Tests.{leb-true, leb-false, ltb-true, ltb-false}
 use Rattle.codec.specs.Choice.{pick}
 use Rattle.codec.specs.Number.{over, fits}
 use Rattle.codec.specs.Field.{bytesAt}
-use Rattle.codec.proofs.Opened.{never}
 use Rattle.codec.proofs.NumberLaws.{has-room, length-over}
-use Rattle.recording.specs.File.{Raw, Finding, lengthIn, sizeIn, complete, first, verdict, keeps, finding, findingOf, skipBit}
-use Rattle.recording.specs.Pieces.{fresh, lengthOf, sizeOf, soundOf, headByte, headedOf, usedOf, partOf, bufferOf, foundOf, counted, doneOf, moreOf, movedOf, endsOf, placeOf, nextOf, keptOf, finishOf}
+use Rattle.recording.specs.File.{Finding, lengthIn, sizeIn, complete, first, verdict, keeps, findingOf}
+use Rattle.recording.specs.Pieces.{fresh, lengthOf, sizeOf, headByte, headedOf, usedOf, partOf, bufferOf, foundOf, counted, doneOf, moreOf, movedOf, placeOf, nextOf, keptOf}
 use Rattle.recording.specs.Calls.{noted}
 use Rattle.recording.specs.declared.field.Found.{Found}
-use Rattle.recording.specs.declared.field.Found.the-variants as Found
 use Rattle.recording.specs.declared.pieces.Place.{Place}
 use Rattle.recording.specs.declared.pieces.Seen.{Seen}
 use Rattle.recording.specs.declared.pieces.Seen.the-variants as Seen
-use Rattle.recording.specs.declared.pieces.Step.{Step}
 use Rattle.recording.proofs.FieldLaws.{keeps-short, unkept}
-use Rattle.recording.proofs.PlaceLaws.{sound-same, head-old, head-new, get-past, get-any, used-all, used-rest, ends-more, ends-done, not-kept}
-use Rattle.recording.proofs.FileLaws.{there, not-yet, is-there, is-cut, body-length, get-left, get-right}
+use Rattle.recording.proofs.PlaceLaws.{sound-same, head-old, head-new, get-any, used-all, used-rest, ends-more, ends-done}
+use Rattle.recording.proofs.FileLaws.{there, not-yet, is-cut, body-length, get-left, get-right}
 
 -- u is what was read of the field under way
 pub record Holds (p : Place) (buffer u : List ℕ) : Type 0 where

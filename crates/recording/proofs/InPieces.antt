@@ -1,5 +1,5 @@
 -- A file in pieces, cut anywhere, is told as the whole. Assumes nothing.
-use Prim.Native.Nat.{ℕ, zero, suc, _+_, _-_, _≤_, _<_, min}
+use Prim.Native.Nat.{ℕ, zero, suc, _+_, _-_, _≤_, min}
 use mathlib.Core.Path.{_≡_, refl, sym, _∙_, ap}
 use mathlib.Core.Bool.{Bool, true, false}
 use mathlib.Core.List.{List, [], _∷_, _++_, append-assoc, append-nil}
@@ -7,19 +7,17 @@ use native.Mathlib.Omega.{arith}
 use lib.ListN.{length, drop, length-drop}
 use lib.Seq.{drop-length}
 use lib.Dec.{eqb}
-use borrow.Author.Tests.{eqb-true, eqb-false, eq-eqb, ne-eqb}
+use borrow.Author.Tests.{eqb-true}
 use Rattle.codec.proofs.Opened.{never}
-use Rattle.recording.specs.File.{Finding, Listing, complete, first, sizeIn, leftOf, findingOf, findingsOf, listingOf, endOf, skipBit, skips}
-use Rattle.recording.specs.Pieces.{fresh, sizeOf, soundOf, counted, nextOf, keptOf, finishOf}
-use Rattle.recording.specs.Calls.{Ran, none, before, noted, onPiece, onPieces, toldOf, inPieces, join}
+use Rattle.recording.specs.File.{complete, first, leftOf, findingOf, findingsOf, listingOf, endOf, skipBit, skips}
+use Rattle.recording.specs.Pieces.{fresh, counted, nextOf, keptOf, finishOf}
+use Rattle.recording.specs.Calls.{Ran, none, before, noted, onPiece, onPieces, inPieces, join}
 use Rattle.recording.specs.declared.field.Found.{Found}
 use Rattle.recording.specs.declared.field.Found.the-variants as Found
 use Rattle.recording.specs.declared.pieces.Place.{Place}
-use Rattle.recording.specs.declared.pieces.Seen.{Seen}
-use Rattle.recording.specs.declared.pieces.Seen.the-variants as Seen
 use Rattle.recording.proofs.PlaceLaws.{sound-same}
-use Rattle.recording.proofs.FileLaws.{is-cut, left-more, left-end, left-append, findings-more, findings-end, findings-append, skips-append}
-use Rattle.recording.proofs.HeldLaws.{Holds, holds-none, Went, went, Ended, ended, held-cut}
+use Rattle.recording.proofs.FileLaws.{left-more, left-end, left-append, findings-more, findings-end, findings-append, skips-append}
+use Rattle.recording.proofs.HeldLaws.{Holds, holds-none, went, ended, held-cut}
 
 -- the count of skipped fields stops at 4,294,967,295
 count-is : (f : Found) (k : ℕ) → k ≤ 4294967295 → counted f k ≡ min (k + skipBit f) 4294967295

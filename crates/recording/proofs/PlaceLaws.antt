@@ -1,23 +1,19 @@
 -- Laws of one call on a piece. Assumes nothing.
-use Prim.Native.Nat.{ℕ, zero, suc, _+_, _-_, _≤_, _<_, min}
+use Prim.Native.Nat.{ℕ, zero, suc, _+_, _-_, _≤_, _<_}
 use mathlib.Core.Path.{_≡_, refl, sym, _∙_}
-use mathlib.Core.Bool.{Bool, true, false, _&&_}
+use mathlib.Core.Bool.{Bool, true, false}
 use mathlib.Core.List.{List, [], _∷_}
 use native.Mathlib.Omega.{arith}
-use lib.ListN.{length, take, drop, getD, length-take, drop-of-length-le}
-use lib.Seq.{length-take-le}
-use lib.Dec.{ltb, leb, eqb}
-use borrow.Author.Tests.{lt-ltb, le-ltb, le-leb, lt-leb, eq-eqb, ne-eqb, ltb-true, leb-true, leb-false}
+use lib.ListN.{length, take, drop, getD}
+use lib.Dec.{ltb, leb}
+use borrow.Author.Tests.{lt-ltb, le-ltb, eq-eqb, ne-eqb, ltb-true, leb-true, leb-false}
 use Rattle.codec.specs.Choice.{pick}
 use Rattle.codec.proofs.Opened.{never}
-use Rattle.codec.specs.Number.{over, fits, Wrote}
+use Rattle.codec.specs.Number.{over, Wrote}
 use Rattle.codec.specs.declared.number.Put.{Put}
-use Rattle.recording.specs.declared.field.Found.{Found}
 use Rattle.recording.specs.declared.pieces.Place.{Place}
-use Rattle.recording.specs.declared.pieces.Seen.{Seen}
-use Rattle.recording.specs.declared.pieces.Seen.the-variants as Seen
 use Rattle.recording.specs.declared.pieces.Step.{Step}
-use Rattle.recording.specs.File.{keeps, endOf}
+use Rattle.recording.specs.File.{keeps}
 use Rattle.recording.specs.Pieces.{fresh, lengthOf, sizeOf, soundOf, headByte, headedOf, placeOf, nextOf, usedOf, partOf, bufferOf, foundOf, doneOf, moreOf, endsOf, finishOf}
 
 pub sound-same : (p : Place) → p .past < sizeOf p → soundOf p ≡ p

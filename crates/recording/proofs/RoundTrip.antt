@@ -1,22 +1,22 @@
 -- What was written lists as that very field; what was listed writes back as the same bytes. Assumes nothing.
-use Prim.Native.Nat.{ℕ, zero, suc, _+_, _-_, _*_, _/_, _%_, _^_, _≤_, _<_}
+use Prim.Native.Nat.{ℕ, zero, suc, _+_, _-_, _*_, _/_, _%_, _≤_}
 use mathlib.Core.Path.{_≡_, refl, sym, _∙_, ap}
 use mathlib.Core.Bool.{Bool, true, false, _&&_}
 use mathlib.Core.List.{List, [], _∷_, _++_, map, append-assoc, append-nil}
 use native.Mathlib.Omega.{arith}
-use lib.ListN.{length, take, drop, getD, length-append, length-take, length-drop, take-append-drop}
+use lib.ListN.{length, take, drop, length-append, length-drop, take-append-drop}
 use lib.Seq.{take-append-seam, take-all, drop-at}
 use lib.Dec.{ltb, leb, eqb}
-use borrow.Author.Tests.{lt-ltb, le-ltb, le-leb, lt-leb, eq-eqb, ne-eqb, leb-true, leb-false, ltb-true, ltb-false, eqb-true, eqb-false}
+use borrow.Author.Tests.{le-leb, leb-true, ltb-false, eqb-true, eqb-false}
 use Rattle.codec.specs.Choice.{pick}
-use Rattle.codec.specs.Number.{be, word, wordAt, val, Bytes}
+use Rattle.codec.specs.Number.{word, wordAt, Bytes}
 use Rattle.codec.specs.Time.{timeOk}
 use Rattle.codec.specs.Refusal.{numberOf}
 use Rattle.codec.specs.declared.time.Time.{Time}
 use Rattle.codec.specs.declared.header.Header.{Header}
 use Rattle.codec.specs.declared.refusal.Refusal.{Refusal}
 use Rattle.codec.specs.declared.refusal.Refusal.the-variants as Refusal
-use Rattle.codec.proofs.Opened.{never, chosen, passed}
+use Rattle.codec.proofs.Opened.{never}
 use Rattle.codec.proofs.BoolLaws.{and-l, and-r}
 use Rattle.codec.proofs.NumberLaws.{word-is}
 use Rattle.codec.proofs.Stands.{val-be, bytes-part, word-stands, part-back}
@@ -25,14 +25,14 @@ use Rattle.reader.specs.Frame.{judgeOf, openJudged}
 use Rattle.reader.specs.Answer.{judgedNumber}
 use Rattle.reader.specs.declared.frame.Judged.{Judged}
 use Rattle.reader.specs.declared.frame.Judged.the-variants as Judged
-use Rattle.recording.specs.File.{Raw, Finding, lengthIn, sizeIn, complete, first, fieldsOf, leftOf, frameFound, noteFound, startIn, startFound, verdict, keeps, findingOf, findingsOf}
+use Rattle.recording.specs.File.{Raw, lengthIn, sizeIn, complete, first, fieldsOf, leftOf, frameFound, noteFound, startIn, startFound, verdict, keeps, findingOf, findingsOf}
 use Rattle.recording.specs.Write.{fieldBytes, startBytes, frameAnswer, noteAnswer, startAnswer}
 use Rattle.recording.specs.Trip.{answerIn, good, AllGood, rawBytes, fileOf, againBy, again, againAll}
 use Rattle.recording.specs.declared.field.Found.{Found}
 use Rattle.recording.specs.declared.field.Found.the-variants as Found
-use Rattle.recording.proofs.FieldLaws.{frame-long, frame-good, frame-bad, start-good, is-frame, is-note, is-start, is-other}
+use Rattle.recording.proofs.FieldLaws.{frame-good, start-good, is-start, is-other}
 use Rattle.recording.proofs.WriteLaws.{field-length}
-use Rattle.recording.proofs.FileLaws.{there, not-yet, is-there, is-cut, body-length, fields-more, fields-end, left-more, left-end}
+use Rattle.recording.proofs.FileLaws.{there, is-there, is-cut, body-length, fields-more, fields-end, left-more, left-end}
 
 raw-as : {a a' : ℕ} {b b' : List ℕ} → a ≡ a' → b ≡ b' → _≡_ {A = Raw} (record { tag = a; body = b }) (record { tag = a'; body = b' })
 raw-as x y = rw (x, y)

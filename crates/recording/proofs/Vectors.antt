@@ -2,13 +2,12 @@
 use Prim.Native.Nat.{ℕ}
 use mathlib.Core.Path.{_≡_, refl}
 use mathlib.Core.List.{List, [], _∷_, _++_}
-use lib.ListN.{replicate}
-use Rattle.recording.specs.File.{Finding, Listing, listingOf, complete, along, fieldsOf, leftOf, frameFound, noteFound, startIn, startFound, verdict, keeps, findingsOf}
+use Rattle.recording.specs.File.{listingOf, complete, along, fieldsOf, leftOf, frameFound, noteFound, startIn, startFound, verdict, keeps, findingsOf}
 use Rattle.recording.specs.declared.field.Found.{Found}
 use Rattle.recording.specs.declared.field.Found.the-variants as Found
 use Rattle.codec.specs.Number.{word, wordAt, fits}
 use Rattle.codec.specs.Header.{readHeader}
-use Rattle.reader.specs.Frame.{judgeOf, walkOf}
+use Rattle.reader.specs.Frame.{judgeOf}
 
 -- an empty file
 pub empty : listingOf [] ≡ record { findings = []; answer = 0; skipped = 0 }

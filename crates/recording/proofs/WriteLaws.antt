@@ -1,13 +1,11 @@
 -- Laws of writing a field. Assumes nothing.
 use Prim.Native.Nat.{ℕ, _+_, _≤_, _<_}
-use mathlib.Core.Path.{_≡_, refl, sym, _∙_, ap}
-use mathlib.Core.Bool.{Bool, true, false}
-use mathlib.Core.List.{List, [], _∷_, _++_, append-nil}
+use mathlib.Core.Path.{_≡_, refl, _∙_, ap}
+use mathlib.Core.Bool.{true, false}
+use mathlib.Core.List.{List, [], _++_, append-nil}
 use native.Mathlib.Omega.{arith}
-use lib.ListN.{length, take, drop, set, length-append, length-set, drop-of-length-le}
-use lib.Dec.{eqb}
-use borrow.Author.Tests.{lt-ltb, le-ltb, ne-eqb, eq-eqb}
-use Rattle.codec.specs.Choice.{pick}
+use lib.ListN.{length, set, drop-of-length-le}
+use borrow.Author.Tests.{lt-ltb, le-ltb, ne-eqb}
 use Rattle.codec.specs.Number.{be, over, Wrote, Laid}
 use Rattle.codec.specs.Time.{timeOk}
 use Rattle.codec.specs.declared.number.Put.{Put}

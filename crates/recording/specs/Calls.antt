@@ -10,7 +10,6 @@ use Rattle.recording.specs.declared.field.Field.{Field}
 use Rattle.recording.specs.declared.pieces.Place.{Place}
 use Rattle.recording.specs.declared.pieces.Seen.{Seen}
 use Rattle.recording.specs.declared.pieces.Seen.the-variants as Seen
-use Rattle.recording.specs.declared.pieces.Step.{Step}
 
 -- what the caller has after some calls
 pub record Ran : Type 0 where

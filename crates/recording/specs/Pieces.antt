@@ -1,9 +1,9 @@
 -- One call on the rest of a piece: it goes as far as the end of one field or of the piece.
 use Prim.Native.Nat.{ℕ, _+_, _-_, _*_, min}
-use mathlib.Core.Bool.{Bool, _&&_}
-use mathlib.Core.List.{List, []}
+use mathlib.Core.Bool.{_&&_}
+use mathlib.Core.List.{List}
 use lib.ListN.{length, take, drop, getD}
-use lib.Dec.{ltb, leb}
+use lib.Dec.{ltb}
 use Rattle.codec.specs.Choice.{pick}
 use Rattle.codec.specs.Number.{over, fits}
 use Rattle.codec.specs.Field.{bytesAt}

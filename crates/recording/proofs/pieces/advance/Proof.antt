@@ -1,4 +1,4 @@
-use mathlib.Core.Path.{sym, _∙_, ap}
+use mathlib.Core.Path.{_∙_, ap}
 use Rattle.recording.specs.Pieces.{nextOf, keptOf, placeOf, headedOf, usedOf, endsOf}
 use Prim.Native.Nat.{ℕ}
 use mathlib.Core.List.{List}

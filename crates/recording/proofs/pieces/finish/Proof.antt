@@ -1,6 +1,5 @@
 use mathlib.Core.Path.{sym, _∙_, ap}
 use Rattle.recording.proofs.PlaceLaws.{finish-none, finish-inside}
-use native.Mathlib.Omega.{arith}
 use Rattle.recording.specs.declared.pieces.Place.{Place}
 use borrow.Author.Needs.{needs}
 use Rattle.recording.proofs.pieces.finish.Statement.{statement}

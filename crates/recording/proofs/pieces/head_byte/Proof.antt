@@ -1,6 +1,5 @@
 use mathlib.Core.Path.{sym}
 use Rattle.recording.proofs.PlaceLaws.{head-old, head-none, head-got}
-use native.Mathlib.Omega.{arith}
 use borrow.Author.Needs.{needs}
 use Rattle.recording.proofs.pieces.head_byte.Statement.{statement}
 use Rattle.recording.proofs.pieces.head_byte.Tie as tie

@@ -1,4 +1,3 @@
-use mathlib.Core.Path.{_∙_}
 use Rattle.recording.proofs.PlaceLaws.{used-none, used-all, used-rest}
 use native.Mathlib.Omega.{arith}
 use borrow.Author.Needs.{needs}
