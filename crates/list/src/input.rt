@@ -36,7 +36,7 @@ fn past(put: Put, at: usize) -> usize {
     }
 }
 
-// The lines of one field are under 32,768 bytes, so that they fit after 65,536.
+// The lines of one field are at most 65,536 bytes, so that they fit after as many.
 fn roomy(told: Told, out: &[u8]) -> Told {
     if told.at <= 65536 {
         return told;

@@ -5,3 +5,4 @@ pub mod ItemLaws
 pub mod Unique
 pub mod Vectors
 pub mod LinesLaws
+pub mod RoomLaws

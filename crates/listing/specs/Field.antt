@@ -1,6 +1,6 @@
 -- The lines of a field, one after another, in an output that may have no room for one.
 use Prim.Native.Nat.{ℕ, _+_}
-use mathlib.Core.List.{List, [], _∷_, map}
+use mathlib.Core.List.{List, [], _∷_, _++_, map}
 use lib.ListN.{length, take}
 use Rattle.codec.specs.Choice.{pick}
 use Rattle.codec.specs.Number.{over, fits}
@@ -51,3 +51,12 @@ withAll t (line ∷ lines) = withAll (with t line) lines
 abbrev pub pastOf : Put → ℕ → ℕ
 pastOf (Put.Next end) at = end
 pastOf Put.Nothing at = at
+
+-- lines as one text
+abbrev pub textOf : List (List ℕ) → List ℕ
+textOf [] = []
+textOf (line ∷ lines) = line ++ textOf lines
+
+-- that text written whole
+abbrev pub wholeOf : Text → List ℕ → Text
+wholeOf t bs = record { bytes = over (t .bytes) (t .at) bs; at = t .at + length bs }

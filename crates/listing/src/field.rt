@@ -1,5 +1,5 @@
 // The lines of one field of a recording. An output that is too short for a line is left as it was and the
-// line left out; who lends one of 32,768 bytes past `at` loses none.
+// line left out; who lends 65,536 bytes past `at` loses none (proofs/RoomLaws.antt).
 use codec::field::ItemRead;
 use codec::header::Header;
 use codec::number::Put;
