@@ -4,8 +4,8 @@ use mathlib.Core.Path.{_≡_, refl, sym, _∙_, ap}
 use mathlib.Core.Bool.{Bool, true, false}
 use mathlib.Core.List.{List, [], _∷_, _++_, map}
 use native.Mathlib.Omega.{arith}
-use lib.ListN.{length, take, drop, getD, length-drop, length-append}
-use lib.Seq.{drop-append-le, take-append-le, length-take-le}
+use lib.ListN.{length, take, drop, getD, length-drop, length-append, List·getD-append}
+use lib.Seq.{drop-append-le, take-append-le, length-take-le, getD-append-add}
 use borrow.Author.Tests.{le-leb, lt-leb, leb-true, leb-false}
 use Rattle.codec.specs.Choice.{pick}
 use Rattle.codec.proofs.Opened.{never}
@@ -79,21 +79,16 @@ module _ (s : List ℕ) where
   unfolding leftOf
   left-end e = along-end (λ rest. rest) (λ f rest. rest) (length s) s e
 
--- an element before the seam
-pub get-left : (u t : List ℕ) (k d : ℕ) → k < length u → getD (u ++ t) k d ≡ getD u k d
-get-left [] t k d h = let z : _≡_ {A = ℕ} 0 1 = omega arith in never z
-get-left (x ∷ u) t zero d h = refl
-get-left (x ∷ u) t (suc k) d h = get-left u t k d (omega arith)
-
+-- an element behind the seam
 pub get-right : (u t : List ℕ) (k d : ℕ) → length u ≤ k → getD (u ++ t) k d ≡ getD t (k - length u) d
-get-right [] t k d h = ap (λ (n : ℕ). getD t n d) (omega arith)
-get-right (x ∷ u) t zero d h = let z : _≡_ {A = ℕ} 0 1 = omega arith in never z
-get-right (x ∷ u) t (suc k) d h = get-right u t k d (omega arith) ∙ ap (λ (n : ℕ). getD t n d) (omega arith)
+get-right u t k d h =
+    let e : k ≡ length u + (k - length u) = omega arith in
+    ap (λ (n : ℕ). getD (u ++ t) n d) e ∙ getD-append-add u t (k - length u) d
 
 -- a complete field stays what it is, whatever follows
 module _ (s x : List ℕ) (h : 3 ≤ length s) where
   pub length-stays : lengthIn (s ++ x) ≡ lengthIn s
-  length-stays = rw (get-left s x 1 0 (omega arith), get-left s x 2 0 (omega arith))
+  length-stays = rw (List·getD-append s x 0 1 (omega arith), List·getD-append s x 0 2 (omega arith))
 
 module _ (s x : List ℕ) (e : complete s ≡ true) where
   long : 3 ≤ length s
@@ -113,7 +108,7 @@ module _ (s x : List ℕ) (e : complete s ≡ true) where
       let d : drop 3 (s ++ x) ≡ drop 3 s ++ x = drop-append-le 3 s x long in
       let t : take (lengthIn s) (drop 3 s ++ x) ≡ take (lengthIn s) (drop 3 s)
       = take-append-le (lengthIn s) (drop 3 s) x (rw (length-drop 3 s) (omega arith)) in
-      rw (length-stays s x long, d, t, get-left s x 0 0 (omega arith))
+      rw (length-stays s x long, d, t, List·getD-append s x 0 0 (omega arith))
 
   pub rest-stays : drop (sizeIn (s ++ x)) (s ++ x) ≡ drop (sizeIn s) s ++ x
   rest-stays = rw size-stays (drop-append-le (sizeIn s) s x (there s e))

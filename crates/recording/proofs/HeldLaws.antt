@@ -4,7 +4,7 @@ use mathlib.Core.Path.{_≡_, refl, sym, _∙_, ap}
 use mathlib.Core.Bool.{Bool, true, false, _&&_}
 use mathlib.Core.List.{List, [], _∷_, _++_}
 use native.Mathlib.Omega.{arith}
-use lib.ListN.{length, take, drop, getD, length-drop, length-append, drop-of-length-le}
+use lib.ListN.{length, take, drop, getD, length-drop, length-append, drop-of-length-le, List·getD-append}
 use lib.Seq.{length-take-le, take-at, drop-append-add, take-append-add, take-nil, take-all}
 use lib.Dec.{ltb, leb}
 use borrow.Author.Tests.{leb-true, leb-false, ltb-true, ltb-false}
@@ -21,7 +21,7 @@ use Rattle.recording.specs.declared.pieces.Seen.{Seen}
 use Rattle.recording.specs.declared.pieces.Seen.the-variants as Seen
 use Rattle.recording.proofs.FieldLaws.{keeps-short, unkept}
 use Rattle.recording.proofs.PlaceLaws.{sound-same, head-old, head-new, get-any, used-all, used-rest, ends-more, ends-done}
-use Rattle.recording.proofs.FileLaws.{there, not-yet, is-cut, body-length, get-left, get-right}
+use Rattle.recording.proofs.FileLaws.{there, not-yet, is-cut, body-length, get-right}
 
 -- u is what was read of the field under way
 pub record Holds (p : Place) (buffer u : List ℕ) : Type 0 where
@@ -57,7 +57,7 @@ head-is k past old u t e g = go (ltb k (length u)) refl
     go : (b : Bool) → ltb k (length u) ≡ b → headByte k past old t ≡ getD (u ++ t) k old
     go true f =
         let h : k < length u = ltb-true k (length u) f in
-        head-old k past old t (omega arith) ∙ sym (get-left u t k old h ∙ g)
+        head-old k past old t (omega arith) ∙ sym (List·getD-append u t old k h ∙ g)
     go false f =
         let h : length u ≤ k = ltb-false k (length u) f in
         head-new k past old t (omega arith) ∙ rw e (sym (get-right u t k old h))
@@ -129,11 +129,11 @@ module _ (p : Place) (buffer u t : List ℕ) (h : Holds p buffer u) where
   -- tag and length were read before: the piece does not change them
   module _ (l : 3 ≤ length u) where
     same-tag : headedOf p t .tag ≡ p .tag
-    same-tag = q-tag ∙ get-left u t 0 (p .tag) (omega arith) ∙ h .tag
+    same-tag = q-tag ∙ List·getD-append u t (p .tag) 0 (omega arith) ∙ h .tag
 
     same-length : lengthOf (headedOf p t) ≡ lengthOf p
     same-length =
-        rw (q-high ∙ get-left u t 1 (p .high) (omega arith) ∙ h .high, q-low ∙ get-left u t 2 (p .low) (omega arith) ∙ h .low)
+        rw (q-high ∙ List·getD-append u t (p .high) 1 (omega arith) ∙ h .high, q-low ∙ List·getD-append u t (p .low) 2 (omega arith) ∙ h .low)
 
   -- they are there now
   module _ (l : 3 ≤ length (u ++ t)) where

@@ -10,22 +10,12 @@ use lib.Dec.{eqb}
 use borrow.Author.Tests.{eqb-true}
 use Rattle.codec.proofs.Opened.{never}
 use Rattle.recording.specs.File.{complete, first, leftOf, findingOf, findingsOf, listingOf, endOf, skipBit, skips}
-use Rattle.recording.specs.Pieces.{fresh, counted, nextOf, keptOf, finishOf}
+use Rattle.recording.specs.Pieces.{fresh, nextOf, keptOf, finishOf}
 use Rattle.recording.specs.Calls.{Ran, none, before, noted, onPiece, onPieces, inPieces, join}
-use Rattle.recording.specs.declared.field.Found.{Found}
-use Rattle.recording.specs.declared.field.Found.the-variants as Found
 use Rattle.recording.specs.declared.pieces.Place.{Place}
 use Rattle.recording.proofs.PlaceLaws.{sound-same}
 use Rattle.recording.proofs.FileLaws.{left-more, left-end, left-append, findings-more, findings-end, findings-append, skips-append}
 use Rattle.recording.proofs.HeldLaws.{Holds, holds-none, went, ended, held-cut}
-
--- the count of skipped fields stops at 4,294,967,295
-count-is : (f : Found) (k : ℕ) → k ≤ 4294967295 → counted f k ≡ min (k + skipBit f) 4294967295
-count-is (Found.Frame h) k m = omega arith
-count-is Found.Note k m = omega arith
-count-is (Found.Start t) k m = omega arith
-count-is (Found.Refused a) k m = omega arith
-count-is Found.Skipped k m = refl
 
 -- after calls from a place that held some bytes and had counted k: all of s, those bytes first, was read
 pub record Read (r : Ran) (s : List ℕ) (k : ℕ) : Type 0 where
@@ -46,7 +36,7 @@ module _ (p : Place) (buffer u t : List ℕ) (h : Holds p buffer u) (m : p .skip
       let e = ended p buffer u t h c in
       let f = findings-more (u ++ t) c in
       let k : nextOf p buffer t .place .skipped ≡ min (p .skipped + skipBit (findingOf (first (u ++ t)) .found)) 4294967295
-      = ap (λ (x : Place). x .skipped) (e .place) ∙ count-is (findingOf (first (u ++ t)) .found) (p .skipped) m in
+      = ap (λ (x : Place). x .skipped) (e .place) in
       let g = d .skipped in
       record {
         findings = rw (e .seen, d .findings, e .rest, f);
@@ -78,7 +68,7 @@ call-read n ih p buffer u t h m l true c =
     let e = ended p buffer u t h c in
     let some = e .some in
     let k : nextOf p buffer t .place .skipped ≤ 4294967295
-    = omega (arith, ap (λ (x : Place). x .skipped) (e .place) ∙ count-is (findingOf (first (u ++ t)) .found) (p .skipped) m) in
+    = omega (arith, ap (λ (x : Place). x .skipped) (e .place)) in
     let f : length (drop (nextOf p buffer t .used) t) ≤ n = rw (length-drop (nextOf p buffer t .used) t) (omega arith) in
     read-more p buffer u t h m _ c (ih (nextOf p buffer t .place) (keptOf p buffer t) [] (drop (nextOf p buffer t .used) t) (e .holds) k f)
 call-read n ih p buffer u t h m l false c =

@@ -4,7 +4,7 @@ use mathlib.Core.Path.{_≡_, refl, sym, _∙_}
 use mathlib.Core.Bool.{Bool, true, false}
 use mathlib.Core.List.{List, [], _∷_}
 use native.Mathlib.Omega.{arith}
-use lib.ListN.{length, take, drop, getD}
+use lib.ListN.{length, take, drop, getD, List·getD-eq-default}
 use lib.Dec.{ltb, leb}
 use borrow.Author.Tests.{lt-ltb, le-ltb, eq-eqb, ne-eqb, ltb-true, leb-true, leb-false}
 use Rattle.codec.specs.Choice.{pick}
@@ -32,12 +32,7 @@ pub head-new : (k past old : ℕ) (piece : List ℕ) → past ≤ k → headByte
 unfolding headByte
 head-new k past old piece h = simp (le-ltb k past h)
 
--- an element of a list, or none: what stands for none
-pub get-past : (l : List ℕ) (k d : ℕ) → length l ≤ k → getD l k d ≡ d
-get-past [] k d h = refl
-get-past (x ∷ l) zero d h = let z : _≡_ {A = ℕ} 0 1 = omega arith in never z
-get-past (x ∷ l) (suc k) d h = get-past l k d (omega arith)
-
+-- what stands for an element that is not there does not matter where it is
 pub get-any : (l : List ℕ) (k d e : ℕ) → k < length l → getD l k d ≡ getD l k e
 get-any [] k d e h = let z : _≡_ {A = ℕ} 0 1 = omega arith in never z
 get-any (x ∷ l) zero d e h = refl
@@ -46,7 +41,7 @@ get-any (x ∷ l) (suc k) d e h = get-any l k d e (omega arith)
 -- the byte at k, as the code finds it
 module _ (k past old : ℕ) (piece : List ℕ) (h : past ≤ k) where
   pub head-none : length piece ≤ k - past → old ≡ headByte k past old piece
-  head-none g = sym (head-new k past old piece h ∙ get-past piece (k - past) old g)
+  head-none g = sym (head-new k past old piece h ∙ List·getD-eq-default piece old g)
 
   pub head-got : k - past < length piece → getD piece (k - past) 0 ≡ headByte k past old piece
   head-got g = get-any piece (k - past) 0 old g ∙ sym (head-new k past old piece h)

@@ -5,7 +5,7 @@ use mathlib.Core.Bool.{Bool, true, false, _&&_}
 use mathlib.Core.List.{List, [], _∷_, _++_, map, append-assoc, append-nil}
 use native.Mathlib.Omega.{arith}
 use lib.ListN.{length, take, drop, length-append, length-drop, take-append-drop}
-use lib.Seq.{take-append-seam, take-all, drop-at}
+use lib.Seq.{take-append-seam, take-all, drop-at, take-length}
 use lib.Dec.{ltb, leb, eqb}
 use borrow.Author.Tests.{le-leb, leb-true, ltb-false, eqb-true, eqb-false}
 use Rattle.codec.specs.Choice.{pick}
@@ -103,9 +103,7 @@ parts-end : (s : List ℕ) → complete s ≡ false → Parts s
 parts-end s c = record { is = rw (fields-end s c, left-end s c) }
 
 bytes-drop : (n : ℕ) (s : List ℕ) → Bytes s → Bytes (drop n s)
-bytes-drop zero s b = b
-bytes-drop (suc n) [] b = b
-bytes-drop (suc n) (x ∷ s) b = bytes-drop n s (b .1)
+bytes-drop n s b = rw (take-length (drop n s)) at (bytes-part s n (length (drop n s)) b)
 
 parts-step : (s : List ℕ) → Bytes s → Parts (drop (sizeIn s) s) → (t : Bool) → complete s ≡ t → Parts s
 parts-step s b i false c = parts-end s c

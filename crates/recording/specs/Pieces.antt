@@ -7,9 +7,8 @@ use lib.Dec.{ltb}
 use Rattle.codec.specs.Choice.{pick}
 use Rattle.codec.specs.Number.{over, fits}
 use Rattle.codec.specs.Field.{bytesAt}
-use Rattle.recording.specs.File.{verdict, keeps, endOf}
+use Rattle.recording.specs.File.{verdict, keeps, skipBit, endOf}
 use Rattle.recording.specs.declared.field.Found.{Found}
-use Rattle.recording.specs.declared.field.Found.the-variants as Found
 use Rattle.recording.specs.declared.field.Field.{Field}
 use Rattle.recording.specs.declared.pieces.Place.{Place}
 use Rattle.recording.specs.declared.pieces.Seen.{Seen}
@@ -27,7 +26,7 @@ lengthOf p = p .high * 256 + p .low
 abbrev pub sizeOf : Place → ℕ
 sizeOf p = 3 + lengthOf p
 
--- a place that reading cannot leave, past the end of its field, counts as one between two fields
+-- a place that reading cannot leave, at or past the end of its field, counts as one between two fields
 unfoldable pub soundOf : Place → Place
 soundOf p = pick (ltb (p .past) (sizeOf p)) p (fresh (p .skipped))
 
@@ -62,11 +61,7 @@ bufferOf p buffer piece =
 
 -- a skipped field is counted, up to 4,294,967,295
 abbrev pub counted : Found → ℕ → ℕ
-counted (Found.Frame h) n = n
-counted Found.Note n = n
-counted (Found.Start t) n = n
-counted (Found.Refused answer) n = n
-counted Found.Skipped n = min (n + 1) 4294967295
+counted found n = min (n + skipBit found) 4294967295
 
 -- the field's verdict, where it is complete: its body is the front of the buffer
 unfoldable pub foundOf : Place → List ℕ → Found

@@ -1,6 +1,4 @@
-use mathlib.Core.Path.{sym, _∙_, ap}
-use Rattle.recording.specs.Pieces.{counted}
-use Rattle.recording.specs.declared.field.Found.{Found}
+use native.Mathlib.Omega.{arith}
 use borrow.Author.Needs.{needs}
 use Rattle.recording.proofs.pieces.count.Statement.{statement}
 use Rattle.recording.proofs.pieces.count.Tie as tie
@@ -15,8 +13,8 @@ count-spec =
     (λ c. search needs)
     (λ c. search needs)
     (λ c κs. search needs)
-    (λ c. search needs)
-    (λ c. search needs)
-    (λ c. search needs)
-    (λ c. search needs)
-    (λ c. c .one-more .ensures ∙ sym (ap (λ (f : Found). counted f (c .before .before .before .args .skipped)) (c .before .enum-told5 .given .1))))
+    (λ c. rw (c .enum-told .given .1) (omega (arith, c .before .before .fits .skipped)))
+    (λ c. rw (c .enum-told2 .given .1) (omega (arith, c .before .before .fits .skipped)))
+    (λ c. rw (c .enum-told3 .given .1) (omega (arith, c .before .before .fits .skipped)))
+    (λ c. rw (c .enum-told4 .given .1) (omega (arith, c .before .before .fits .skipped)))
+    (λ c. rw (c .before .enum-told5 .given .1) (c .one-more .ensures)))
