@@ -1,0 +1,4 @@
+pub mod SampleLaws
+pub mod PlaceLaws
+pub mod Unique
+pub mod Vectors
