@@ -1,7 +1,9 @@
 //! Which answers a script for `record` gets on the lines that write fields, and which ways.
 
-use crate::frame::Time;
+use crate::count_positions::Positions;
+use crate::frame::{Time, LAST_SECOND};
 use crate::record::Recorder;
+use crate::recording::{fields, judge};
 use crate::text::{self, Line, LONGEST_LINE};
 use std::collections::BTreeMap;
 
@@ -11,9 +13,11 @@ pub fn report(script: &[u8]) -> Vec<u8> {
     let mut ways = Ways::default();
     for (i, line) in text::lines(script).enumerate() {
         ways.add("lines");
+        let written = recorder.recording().len();
         if let Some(answer) = recorder.line(i + 1, line) {
             ways.look(line, answer.split(' ').next().unwrap_or_default());
         }
+        ways.look_at_written(line, &recorder.recording()[written..]);
     }
     let line = |(way, count): (&String, &usize)| format!("record-{way} {count}\n");
     ways.counts.iter().map(line).collect::<String>().into()
@@ -22,6 +26,7 @@ pub fn report(script: &[u8]) -> Vec<u8> {
 #[derive(Default)]
 struct Ways {
     counts: BTreeMap<String, usize>,
+    positions: Positions,
 }
 
 impl Ways {
@@ -80,11 +85,31 @@ impl Ways {
             return self.add("start-wide-nanos");
         };
         let in_range = |seconds, nanos| Time { seconds, nanos }.is_in_range();
-        match (in_range(seconds, 0), in_range(0, nanos)) {
-            (true, true) => {}
-            (false, true) => self.add("start-42-seconds"),
-            (true, false) => self.add("start-42-nanos"),
-            (false, false) => self.add("start-42-both"),
+        let why = match (in_range(seconds, 0), in_range(0, nanos)) {
+            (true, true) => return,
+            (false, true) => "seconds",
+            (true, false) => "nanos",
+            (false, false) => "both",
+        };
+        self.add(&format!("start-42-{why}"));
+        // As many bits of the seconds as a field has.
+        let seconds = seconds & LAST_SECOND;
+        self.positions.refuse(why, Some(Time { seconds, nanos }));
+    }
+
+    /// The positions of the items that the line wrote.
+    fn look_at_written(&mut self, line: &[u8], written: &[u8]) {
+        let from = if line.starts_with(b"take") {
+            "take"
+        } else {
+            "frame"
+        };
+        for field in fields(written).0 {
+            for way in self.positions.look_at(field, &judge(field)) {
+                let shown = way == "0" || way == "positive" || way == "negative";
+                self.add_if(shown, &format!("position-of-{from}"));
+                self.add(&format!("position-{way}"));
+            }
         }
     }
 }
@@ -134,5 +159,33 @@ mod tests {
         let expected: String = expected.iter().map(line).collect();
         let counted = String::from_utf8(report(lines.join("\n").as_bytes())).unwrap();
         assert_eq!(counted, expected);
+    }
+
+    #[test]
+    fn positions_of_what_the_lines_write() {
+        let lines = [
+            "frame 01070000000000100000000500050000810040",
+            "start 15 0",
+            "start 281474976710656 0",
+            "setup 64 1 1 1 5",
+            "start 0",
+            "can-range 0 0 4294967295",
+            "can 0 16 0 0x123 0102",
+            "tick 17 0",
+            "take 40",
+        ];
+        let counted = String::from_utf8(report(lines.join("\n").as_bytes())).unwrap();
+        let positions: Vec<&str> = counted.lines().filter(|l| l.contains("position")).collect();
+        let expected = [
+            "dash-before",
+            "first-nanosecond",
+            "kept",
+            "kept-seconds",
+            "no-borrow",
+            "of-take",
+            "positive",
+        ];
+        let expected = expected.map(|way| format!("record-position-{way} 1"));
+        assert_eq!(positions, expected);
     }
 }

@@ -1,6 +1,7 @@
 //! Which ways recordings come: what their fields are found to be, and how they end. The counts of
 //! several recordings are added up by `tools/check-recordings`.
 
+use crate::count_positions::Positions;
 use crate::frame::{Frame, Id, Item, Kind, Time, CAN_EXTENDED, CAN_FD, LAST_SECOND};
 use crate::reader;
 use crate::recording::{fields, judge, Field, Found};
@@ -10,11 +11,15 @@ use std::collections::BTreeMap;
 /// `NAME N` for each way that occurred in a recording.
 pub fn report(recording: &[u8]) -> Vec<u8> {
     let mut ways = Ways::default();
+    let mut positions = Positions::default();
     let (fields, rest) = fields(recording);
     ways.add("recordings");
     for (i, &field) in fields.iter().enumerate() {
         let before = i.checked_sub(1).map(|i| judge(fields[i]));
         ways.look_at_field(field, before);
+        for way in positions.look_at(field, &judge(field)) {
+            ways.add(format!("position-{way}"));
+        }
     }
     ways.look_at_end(recording, rest);
     ways.report()

@@ -1,6 +1,7 @@
 //! The text that `list` writes of a recording.
 
-use crate::frame::{Frame, Id, Item, Kind, Time, CAN_EXTENDED, CAN_FD};
+use crate::frame::{Frame, Id, Item, Kind, Placed, Time, CAN_EXTENDED, CAN_FD};
+use crate::position::position;
 use crate::recording::{end_answer, fields, judge, Found};
 
 /// The listing of a recording that is there as a whole.
@@ -18,14 +19,18 @@ pub fn list(recording: &[u8]) -> Vec<u8> {
 pub struct Listing {
     text: String,
     skipped: u32,
+    /// The latest good one.
+    start: Option<Time>,
 }
 
 impl Listing {
     pub fn add(&mut self, found: &Found) {
-        if let Found::Skipped { .. } = found {
-            self.skipped = self.skipped.saturating_add(1);
+        match found {
+            Found::Skipped { .. } => self.skipped = self.skipped.saturating_add(1),
+            Found::Start(start) => self.start = Some(*start),
+            _ => {}
         }
-        self.text.push_str(&lines(found));
+        self.text.push_str(&lines(found, self.start));
     }
 
     pub fn end(mut self, answer: u8) -> Vec<u8> {
@@ -35,9 +40,9 @@ impl Listing {
     }
 }
 
-fn lines(found: &Found) -> String {
+fn lines(found: &Found, microphone: Option<Time>) -> String {
     match found {
-        Found::Frame(frame) => frame_lines(frame),
+        Found::Frame(frame) => frame_lines(frame, microphone),
         Found::Note(text) => format!("note {}\n", escaped(text)),
         Found::Start(start) => format!("start {}\n", time(*start)),
         Found::Refused { tag, answer } => format!("refused {tag} {answer}\n"),
@@ -45,19 +50,19 @@ fn lines(found: &Found) -> String {
     }
 }
 
-fn frame_lines(frame: &Frame) -> String {
+fn frame_lines(frame: &Frame, microphone: Option<Time>) -> String {
     let header = &frame.header;
     let (sequence, length) = (header.sequence, header.data_length);
     let first = format!("frame {sequence} {} {length}\n", time(header.time));
-    let items = frame.items.iter().map(|placed| item_line(&placed.item));
+    let line = |placed: &Placed| item_line(&placed.item, microphone);
+    let items = frame.items.iter().map(line);
     std::iter::once(first).chain(items).collect()
 }
 
-fn item_line(item: &Item) -> String {
+fn item_line(item: &Item, microphone: Option<Time>) -> String {
     let words = [
         time(item.time),
-        // The place on the tape is not told yet.
-        dash(),
+        microphone.map_or_else(dash, |start| place(start, item.time)),
         bus(item).to_string(),
         item.network.to_string(),
         item.id.map_or_else(dash, id),
@@ -71,6 +76,11 @@ fn item_line(item: &Item) -> String {
 
 fn dash() -> String {
     "-".to_string()
+}
+
+/// On the tape.
+fn place(start: Time, time: Time) -> String {
+    position(start, time).map_or_else(|_| dash(), |sample| sample.to_string())
 }
 
 fn time(time: Time) -> String {

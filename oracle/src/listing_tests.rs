@@ -141,6 +141,121 @@ fn starts() {
     assert_eq!(listed(&field(3, body.to_vec())), expected);
 }
 
+fn start(seconds: u64, nanos: u32) -> Vec<u8> {
+    let body = [&seconds.to_be_bytes()[2..], &nanos.to_be_bytes()];
+    field(3, body.concat())
+}
+
+/// The positions of all items, one behind the other.
+fn positions(fields: &[Vec<u8>]) -> String {
+    let text = listed(&fields.concat());
+    let items = text.lines().filter(|line| line.starts_with("  "));
+    let words: Vec<&str> = items.map(|line| line.split(' ').nth(3).unwrap()).collect();
+    words.join(" ")
+}
+
+/// Three states, 0, 10 and 655,350 microseconds behind 16 s 999,999,000 ns.
+fn three_states() -> Vec<u8> {
+    let state = [0x81, 0, 0];
+    let offsets = [[0, 0], [0, 1], [255, 255]];
+    let items = offsets.map(|offset| [offset.as_slice(), &state].concat());
+    frame_of(&items.concat())
+}
+
+#[test]
+fn a_position_stands_behind_the_time() {
+    let recording = [start(16, 999_999_000), three_states()].concat();
+    let expected = "start 16.999999000\n\
+         frame 9 16.999999000 15\n\
+         \x20 16.999999000 0 CAN 0 - 00 - -\n\
+         \x20 17.000009000 0 CAN 0 - 00 - -\n\
+         \x20 17.655349000 31456 CAN 0 - 00 - -\n\
+         end 0 0\n";
+    assert_eq!(listed(&recording), expected);
+}
+
+#[test]
+fn positions_before_and_behind_the_start() {
+    let from = |seconds, nanos| positions(&[start(seconds, nanos), three_states()]);
+    assert_eq!(from(16, 999_999_001), "-1 0 31456");
+    assert_eq!(from(17, 9_000), "-1 0 31456");
+    assert_eq!(from(17, 9_001), "-1 -1 31456");
+    assert_eq!(from(17, 19_834), "-2 -1 31455");
+    assert_eq!(from(17, 655_349_000), "-31457 -31457 0");
+    assert_eq!(from(17, 655_349_001), "-31457 -31457 -1");
+    assert_eq!(from(0, 0), "815999 816000 847456");
+}
+
+#[test]
+fn no_position_beyond_24_hours() {
+    let from = |seconds, nanos| positions(&[start(seconds, nanos), three_states()]);
+    let day = 86_400;
+    assert_eq!(
+        from(16 + day, 999_999_000),
+        "-4147200000 -4147200000 -4147168544"
+    );
+    assert_eq!(from(16 + day, 999_999_001), "- -4147200000 -4147168544");
+    assert_eq!(from(17 + day, 9_001), "- - -4147168544");
+    assert_eq!(from(17 + day, 655_349_001), "- - -");
+    // In the last second, and past it.
+    let mut late = three_states();
+    late[5..11].fill(255);
+    let from = |seconds, nanos| positions(&[start(seconds, nanos), late.clone()]);
+    let before = 281_474_976_710_655 - day;
+    assert_eq!(from(before, 999_999_000), "4147200000 - -");
+    assert_eq!(from(before, 999_998_999), "- - -");
+    assert_eq!(
+        from(before + 1, 655_349_000),
+        "4147168543 4147168543 4147200000"
+    );
+    assert_eq!(from(before + 1, 655_348_999), "4147168543 4147168543 -");
+}
+
+#[test]
+fn the_latest_good_start_before_the_item_counts() {
+    let states = three_states;
+    let (here, later) = (start(16, 999_999_000), start(17, 655_349_000));
+    let (of_here, of_later) = ("0 0 31456", "-31457 -31457 0");
+    let told = positions(&[states(), here.clone(), later.clone(), states()]);
+    assert_eq!(told, format!("- - - {of_later}"));
+    let told = positions(&[here.clone(), states(), later, states(), here, states()]);
+    assert_eq!(told, format!("{of_here} {of_later} {of_here}"));
+    let far = [start(16, 999_999_000), start(1 << 40, 0), states()];
+    assert_eq!(positions(&far), "- - -");
+}
+
+#[test]
+fn a_refused_start_leaves_the_earlier_one_in_force() {
+    let right = start(17, 9_000)[3..].to_vec();
+    let refused = [
+        field(3, right[..9].to_vec()),
+        field(3, [right.as_slice(), &[0]].concat()),
+        field(3, vec![]),
+        field(3, right.repeat(200)),
+        start(16, 1_000_009_000),
+        start(16, u32::MAX),
+    ];
+    for wrong in refused {
+        let fields = [start(16, 999_999_000), wrong.clone(), three_states()];
+        assert_eq!(positions(&fields), "0 0 31456", "{wrong:?}");
+        assert_eq!(positions(&[wrong, three_states()]), "- - -");
+    }
+    // Nor does any other field, nor a start that the end cuts short.
+    let others = [
+        field(2, right.clone()),
+        field(4, right.clone()),
+        field(1, right),
+    ];
+    let fields = [start(16, 999_999_000), others.concat(), three_states()];
+    assert_eq!(positions(&fields), "0 0 31456");
+    let cut = [
+        start(16, 999_999_000),
+        three_states(),
+        start(1, 1)[..12].to_vec(),
+    ];
+    assert_eq!(positions(&cut), "0 0 31456");
+}
+
 #[test]
 fn listing_goes_on_behind_a_refusal_and_behind_a_skipped_field() {
     let recording = [
@@ -196,6 +311,7 @@ fn the_count_of_skipped_fields_stops() {
     let mut listing = Listing {
         text: String::new(),
         skipped: u32::MAX - 1,
+        start: None,
     };
     for _ in 0..3 {
         listing.add(&Found::Skipped { tag: 9, length: 0 });

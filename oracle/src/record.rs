@@ -14,6 +14,11 @@ pub struct Recorder {
 }
 
 impl Recorder {
+    /// What the lines so far have written.
+    pub fn recording(&self) -> &[u8] {
+        &self.recording
+    }
+
     /// The answer to one line; a skipped line has none.
     pub fn line(&mut self, number: usize, line: &[u8]) -> Option<String> {
         if let Some(answer) = self.own_line(line) {

@@ -1,17 +1,20 @@
 //! Makes scripts for `record` from a seed: first some fixed lines, then the mix of the script maker
 //! with notes, microphone starts and frames between its lines.
 
-use crate::frame::LAST_SECOND;
+use crate::frame::{Time, LAST_SECOND};
 use crate::random::Random;
+use crate::record::Recorder;
 use crate::recording::LONGEST_BODY;
 use crate::recording_frames as frames;
 use crate::recording_maker::text as any_text;
 use crate::script;
 use crate::script::sheet::{hex, spelled};
+use crate::tape::{Part, Tape};
 use crate::text::{self, LONGEST_LINE};
 
 /// Each row once. Nothing is set up yet, so that the starts with one number answer 2.
-const HEAD: [&str; 43] = [
+const HEAD: [&str; 46] = [
+    "frame 010700000000001000000005000a00008100400002810040",
     "note a note",
     "note ",
     "note  two spaces before, and two behind  ",
@@ -55,6 +58,8 @@ const HEAD: [&str; 43] = [
     "frame 0g",
     "frame 01 00",
     "frame 0100000000000010000000000000 ",
+    "start 16 10006",
+    "frame 010700000000001000000005000a00008100400002810040",
 ];
 
 type Card = fn(&mut Random) -> Vec<u8>;
@@ -88,7 +93,7 @@ const DECK: Deck = &[
         let nanos = random.pick(&[0, 999_999_999, 1_000_000_000, u64::from(u32::MAX)]);
         start(random, (seconds, nanos))
     }),
-    (2, |random| {
+    (3, |random| {
         let wide = random.pick(&["start 18446744073709551616 0", "start 16 4294967296"]);
         wide.into()
     }),
@@ -204,21 +209,85 @@ fn long_lines() -> [Vec<u8>; 4] {
     ]
 }
 
+/// The script while it is being made. Each line is played too, so that a start can be chosen by the
+/// frame that the next line takes.
+struct Made {
+    lines: Vec<Vec<u8>>,
+    recorder: Recorder,
+    tape: Tape,
+}
+
+impl Made {
+    fn new(random: &mut Random) -> Made {
+        let frames = (0..40).map(|_| frames::with_items(random)).collect();
+        Made {
+            lines: Vec::new(),
+            recorder: Recorder::default(),
+            tape: Tape::new(random, frames),
+        }
+    }
+
+    /// A start leaves the engine alone: what the line takes is the same behind it.
+    fn push(&mut self, random: &mut Random, line: Vec<u8>) {
+        let written = self.recorder.recording().len();
+        self.recorder.line(1, &line);
+        let field = &self.recorder.recording()[written..];
+        if line.starts_with(b"take") && !field.is_empty() && !random.one_in(4) {
+            let time = self.tape.start_for(random, &field[3..]);
+            self.lines.push(start_at(random, time));
+        }
+        self.lines.push(line);
+    }
+
+    fn push_own(&mut self, random: &mut Random) {
+        if !random.one_in(20) {
+            let line = own_line(random);
+            return self.push(random, line);
+        }
+        for part in self.tape.scene(random) {
+            let line = line_of(random, part);
+            self.push(random, line);
+        }
+    }
+}
+
+fn start_at(random: &mut Random, time: Time) -> Vec<u8> {
+    start(random, (time.seconds, u64::from(time.nanos)))
+}
+
+/// A line can't have the wrong length. It has seconds of which the lower bits alone are a start's.
+fn line_of(random: &mut Random, part: Part) -> Vec<u8> {
+    match part {
+        Part::Start(time) => start_at(random, time),
+        Part::NoStart(mut time) => {
+            time.seconds += LAST_SECOND + 1;
+            start_at(random, time)
+        }
+        Part::Frame(bytes) => frame(random, &bytes),
+    }
+}
+
 pub fn make(seed: u64, lines: usize) -> Vec<u8> {
     let mut random = Random::new(seed);
-    let mut made: Vec<Vec<u8>> = HEAD.iter().map(|line| line.as_bytes().to_vec()).collect();
-    made.extend(long_lines());
-    let mix = script::mix(&mut random, lines.saturating_sub(made.len()) / 2);
+    let mut made = Made::new(&mut random);
+    for line in HEAD {
+        made.push(&mut random, line.into());
+    }
+    for line in long_lines() {
+        made.push(&mut random, line);
+    }
+    let mix = script::mix(&mut random, lines.saturating_sub(made.lines.len()) / 2);
     for line in text::lines(&mix) {
         while random.one_in(2) {
-            made.push(own_line(&mut random));
+            made.push_own(&mut random);
         }
-        made.push(line.to_vec());
+        made.push(&mut random, line.to_vec());
     }
-    while made.len() < lines {
-        made.push(own_line(&mut random));
+    while made.lines.len() < lines {
+        made.push_own(&mut random);
     }
-    made.iter()
+    made.lines
+        .iter()
         .flat_map(|line| [line, b"\n".as_slice()].concat())
         .collect()
 }
@@ -245,10 +314,10 @@ mod tests {
         let answers = String::from_utf8(answers).unwrap();
         let answers: Vec<&str> = answers.lines().collect();
         let expected = [
-            "0", "0", "0", "0", "0", "0", "0", "0", "0", "0", "? 11", "? 12", "0", "? 14", "? 15",
-            "? 16", "? 17", "? 18", "0", "0", "0", "0", "0", "42", "42", "42", "42", "? 28",
-            "? 29", "2", "2", "? 32", "? 33", "? 34", "? 35", "? 36", "20", "20", "? 39", "? 40",
-            "? 41", "? 42", "0",
+            "0", "0", "0", "0", "0", "0", "0", "0", "0", "0", "0", "? 12", "? 13", "0", "? 15",
+            "? 16", "? 17", "? 18", "? 19", "0", "0", "0", "0", "0", "42", "42", "42", "42",
+            "? 29", "? 30", "2", "2", "? 33", "? 34", "? 35", "? 36", "? 37", "20", "20", "? 40",
+            "? 41", "? 42", "? 43", "0", "0", "0",
         ];
         assert_eq!(answers, expected);
     }

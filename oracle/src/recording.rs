@@ -91,16 +91,21 @@ fn judge_note(body: &[u8]) -> Result<&[u8], u8> {
 }
 
 fn judge_start(body: &[u8]) -> Result<Time, u8> {
-    let body: [u8; START_LENGTH] = body.try_into().map_err(|_| NO_START)?;
-    let number = |bytes: &[u8]| bytes.iter().fold(0u64, |n, &b| n << 8 | u64::from(b));
-    let time = Time {
-        seconds: number(&body[..6]),
-        nanos: number(&body[6..]) as u32,
-    };
+    let body = body.try_into().map_err(|_| NO_START)?;
+    let time = start_time(body);
     if time.is_in_range() {
         Ok(time)
     } else {
         Err(NO_START)
+    }
+}
+
+/// Whatever the nanoseconds are.
+pub fn start_time(body: &[u8; START_LENGTH]) -> Time {
+    let number = |bytes: &[u8]| bytes.iter().fold(0u64, |n, &b| n << 8 | u64::from(b));
+    Time {
+        seconds: number(&body[..6]),
+        nanos: number(&body[6..]) as u32,
     }
 }
 

@@ -19,6 +19,23 @@ pub fn right(random: &mut Random) -> Vec<u8> {
     valid::frame(random, items).bytes()
 }
 
+pub fn with_items(random: &mut Random) -> Vec<u8> {
+    let count = 1 + random.below(6);
+    let items = valid::any_items(random, count);
+    valid::frame(random, items).bytes()
+}
+
+/// Short, with up to three items.
+pub fn of_states(random: &mut Random) -> Vec<u8> {
+    let count = 1 + random.below(3);
+    let state = |random: &mut Random| {
+        let kind = random.pick(&KINDS);
+        valid::item(random, kind, STATE)
+    };
+    let items = (0..count).map(|_| state(random)).collect();
+    valid::frame(random, items).bytes()
+}
+
 pub fn without_items(random: &mut Random) -> Vec<u8> {
     valid::frame(random, Vec::new()).bytes()
 }
@@ -154,7 +171,7 @@ mod tests {
     fn right_frames_are_right_and_stumps_are_too_short() {
         let mut random = Random::new(6);
         for _ in 0..200 {
-            let sorts = [right, without_items, every_form];
+            let sorts = [right, with_items, of_states, without_items, every_form];
             for sort in sorts {
                 assert!(reader::read(&sort(&mut random)).is_ok());
             }

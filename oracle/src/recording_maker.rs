@@ -1,11 +1,13 @@
 //! Makes recordings from a seed. Fields are dealt from a deck that holds every sort of field, so that
 //! a long recording has all of them, in any order.
 
-use crate::frame::LAST_SECOND;
+use crate::frame::{Time, LAST_SECOND};
 use crate::random::Random;
 use crate::recording::{FRAME, LONGEST_BODY, NOTE, START};
 use crate::recording_ends as ends;
 use crate::recording_frames as frames;
+use crate::tape::{Part, Tape};
+use std::collections::VecDeque;
 
 pub const DEFAULT_FIELDS: usize = 200;
 /// The most that two bytes can say.
@@ -86,6 +88,11 @@ const DECK: Deck = &[
     (1, fields_inside),
     // as long as a field can be
     (1, longest),
+    // starts, and frames at chosen places on their tape
+    (10, |m| {
+        let parts = m.tape.scene(&mut m.random);
+        m.deal_parts(parts)
+    }),
 ];
 
 struct Maker {
@@ -93,6 +100,11 @@ struct Maker {
     taken: Vec<Vec<u8>>,
     left: Vec<Card>,
     last_tag: u8,
+    tape: Tape,
+    /// Lengths of starts that are refused for it.
+    stretched: &'static [usize],
+    /// What the last card has besides its first field.
+    coming: VecDeque<Vec<u8>>,
 }
 
 impl Maker {
@@ -100,16 +112,28 @@ impl Maker {
         let mut random = Random::new(seed);
         let taken = frames::taken(&mut random, TAKEN_FRAMES);
         let last_tag = random.byte();
+        let mut on_tape = taken.clone();
+        for _ in 0..TAKEN_FRAMES {
+            on_tape.push(frames::of_states(&mut random));
+            on_tape.push(frames::with_items(&mut random));
+        }
+        let tape = Tape::new(&mut random, on_tape);
         Maker {
             random,
             taken,
             left: Vec::new(),
             last_tag,
+            tape,
+            stretched: &[9, 11, 11, 12, 14, 1_472, 1_473, 1_473],
+            coming: VecDeque::new(),
         }
     }
 
     /// The deck is dealt to its last card before it is taken up again.
     fn deal(&mut self, deck: Deck) -> Vec<u8> {
+        if let Some(field) = self.coming.pop_front() {
+            return field;
+        }
         if self.left.is_empty() {
             let copies = |&(many, card): &(usize, Card)| vec![card; many];
             self.left = deck.iter().flat_map(copies).collect();
@@ -137,6 +161,50 @@ impl Maker {
 
     fn note(&mut self, length: usize) -> Vec<u8> {
         note(text(&mut self.random, length))
+    }
+
+    /// These are dealt next, now and then with a field between that has no part in it.
+    fn line_up(&mut self, parts: Vec<Part>) {
+        for part in parts {
+            if self.random.one_in(8) {
+                let between = self.between();
+                self.coming.push_back(between);
+            }
+            let field = self.field_of(part);
+            self.coming.push_back(field);
+        }
+    }
+
+    /// The first field; the others come behind it.
+    fn deal_parts(&mut self, parts: Vec<Part>) -> Vec<u8> {
+        self.line_up(parts);
+        self.coming.pop_front().unwrap_or_default()
+    }
+
+    fn between(&mut self) -> Vec<u8> {
+        let length = self.random.below(8);
+        match self.random.below(3) {
+            0 => self.note(length),
+            1 => unknown(self, length),
+            _ => frame(frames::stump(&mut self.random)),
+        }
+    }
+
+    fn field_of(&mut self, part: Part) -> Vec<u8> {
+        match part {
+            Part::Start(time) => field(START, start_body(time)),
+            Part::NoStart(time) => self.stretched_start(time),
+            Part::Frame(bytes) => frame(bytes),
+        }
+    }
+
+    /// Of another length than 10.
+    fn stretched_start(&mut self, time: Time) -> Vec<u8> {
+        let length = self.random.pick(self.stretched);
+        let mut body = start_body(time);
+        body.extend(self.random.bytes(length));
+        body.truncate(length);
+        field(START, body)
     }
 }
 
@@ -183,11 +251,13 @@ fn right_start(maker: &mut Maker) -> Vec<u8> {
 /// Seconds are any six bytes.
 fn start(maker: &mut Maker, nanos: u32) -> Vec<u8> {
     let any = maker.random.next() >> 16;
-    let seconds = maker
-        .random
-        .pick(&[0, 16, LAST_SECOND, any, any])
-        .to_be_bytes();
-    field(START, [&seconds[2..], &nanos.to_be_bytes()].concat())
+    let seconds = maker.random.pick(&[0, 16, LAST_SECOND, any, any]);
+    field(START, start_body(Time { seconds, nanos }))
+}
+
+fn start_body(time: Time) -> Vec<u8> {
+    let seconds = time.seconds.to_be_bytes();
+    [&seconds[2..], &time.nanos.to_be_bytes()].concat()
 }
 
 /// Of another length than 10; where it is long enough its first ten bytes are often a right start.
@@ -249,6 +319,10 @@ fn longest(maker: &mut Maker) -> Vec<u8> {
 pub fn make(seed: u64, fields: usize) -> Vec<u8> {
     let mut maker = Maker::new(seed);
     let mut out = Vec::new();
+    if maker.random.one_in(3) {
+        let parts = maker.tape.opening(&mut maker.random);
+        maker.line_up(parts);
+    }
     for _ in 0..fields {
         out.extend(maker.deal(DECK));
     }
@@ -261,7 +335,7 @@ const SMALL_DECK: Deck = &[
     (2, |m| frame(small_frame(m))),
     (1, |m| frame(frames::stump(&mut m.random))),
     (1, |m| frame(wrong(small_frame(m)))),
-    (2, |m| {
+    (3, |m| {
         let length = m.random.below(8);
         m.note(length)
     }),
@@ -271,9 +345,13 @@ const SMALL_DECK: Deck = &[
         let length = m.random.pick(&[0, 1, 9, 11, 14]);
         start_of_length(m, length)
     }),
-    (3, |m| {
+    (4, |m| {
         let length = m.random.below(8);
         unknown(m, length)
+    }),
+    (3, |m| {
+        let parts = m.tape.short_scene(&mut m.random);
+        m.deal_parts(parts)
     }),
 ];
 
@@ -290,6 +368,10 @@ fn wrong(mut frame: Vec<u8>) -> Vec<u8> {
 /// So many short fields, then the beginning of a long one, of which few bytes are there.
 pub fn make_small(seed: u64, fields: usize) -> Vec<u8> {
     let mut maker = Maker::new(seed);
+    let short = (0..20).map(|_| frames::of_states(&mut maker.random));
+    let short = short.collect();
+    maker.tape = Tape::new(&mut maker.random, short);
+    maker.stretched = &[9, 11, 12, 14];
     let mut out = Vec::new();
     for _ in 0..fields {
         out.extend(maker.deal(SMALL_DECK));

@@ -23,9 +23,13 @@ fn a_recording_has_as_many_complete_fields_as_asked_for() {
 
 #[test]
 fn one_deck_has_every_verdict() {
-    let deck: usize = DECK.iter().map(|(many, _)| many).sum();
     for seed in 0..5 {
-        let counts = count_recordings::report(&make(seed, deck));
+        let mut maker = Maker::new(seed);
+        let mut recording = maker.deal(DECK);
+        while !maker.left.is_empty() {
+            recording.extend(maker.deal(DECK));
+        }
+        let counts = count_recordings::report(&recording);
         let counts = String::from_utf8(counts).unwrap();
         for way in [
             "good-1",
@@ -42,6 +46,9 @@ fn one_deck_has_every_verdict() {
             "skipped-of-0",
             "skipped-of-1473",
             "good-2-every-byte",
+            "position-61",
+            "position-positive",
+            "position-negative",
         ] {
             let wanted = format!("\n{way} ");
             assert!(counts.contains(&wanted), "{way} with seed {seed}");

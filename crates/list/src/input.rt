@@ -3,22 +3,27 @@ use codec::number::Put;
 use libc::STDERR_FILENO;
 use libc::STDIN_FILENO;
 use libc::STDOUT_FILENO;
+use listing::Cursor;
+use listing::Microphone;
 use recording::pieces::Place;
 use recording::pieces::Seen;
 
 // A program cannot end with a status of its own. What started it may listen here, and hears of a failure.
 const STATUS: i32 = 3;
 
-// Where reading stands; where the lines end that are not yet written; and whether writing failed.
+// Where reading stands; where the lines end that are not yet written; the start from which positions count; and
+// whether writing failed.
 struct Told {
     place: Place,
     at: usize,
+    microphone: Microphone,
     failed: bool,
 }
 
-// What is kept from piece to piece: how much was read, and whether it is over.
+// What is kept from piece to piece: the start, how much was read, and whether it is over.
 struct State {
     place: Place,
+    microphone: Microphone,
     read: u64,
     over: bool,
 }
@@ -46,10 +51,12 @@ fn roomy(told: Told, out: &[u8]) -> Told {
 
 fn written(told: Told, out: &[u8]) -> Told {
     let place = told.place;
+    let microphone = told.microphone;
     let failed = told.failed || !io::write_all(STDOUT_FILENO, text::part::front(out, told.at));
     Told {
         place,
         at: 0,
+        microphone,
         failed,
     }
 }
@@ -59,9 +66,17 @@ fn found(told: Told, seen: Seen, body: &[u8], out: &mut [u8]) -> Told {
         Seen::Field(field) => {
             let roomy = roomy(told, out);
             let place = roomy.place;
+            let microphone = roomy.microphone;
+            let cursor = Cursor {
+                at: roomy.at,
+                microphone,
+            };
+            let next = listing::lines(out, cursor, field, body);
+            let heard = next.microphone;
             Told {
                 place,
-                at: listing::lines(out, roomy.at, field, body),
+                at: next.at,
+                microphone: heard,
                 failed: roomy.failed,
             }
         }
@@ -70,10 +85,17 @@ fn found(told: Told, seen: Seen, body: &[u8], out: &mut [u8]) -> Told {
 }
 
 // The fields that end in this piece, and then no line is held back: who watches sees what was read.
-fn take(piece: &[u8], body: &mut [u8; 1472], out: &mut [u8], start: Place) -> Told {
+fn take(
+    piece: &[u8],
+    body: &mut [u8; 1472],
+    out: &mut [u8],
+    start: Place,
+    since: Microphone,
+) -> Told {
     let mut told = Told {
         place: start,
         at: 0,
+        microphone: since,
         failed: false,
     };
     let mut rest = piece;
@@ -82,9 +104,11 @@ fn take(piece: &[u8], body: &mut [u8; 1472], out: &mut [u8], start: Place) -> To
         let place = step.place;
         let seen = step.seen;
         let used = step.used;
+        let microphone = told.microphone;
         let on = Told {
             place,
             at: told.at,
+            microphone,
             failed: told.failed,
         };
         told = found(on, seen, body, out);
@@ -108,21 +132,22 @@ fn tell(before: u64, read: u64) {
     io::write_all(STDERR_FILENO, text::part::front(&line, d));
 }
 
-fn over(place: Place, read: u64) -> State {
+fn over(place: Place, microphone: Microphone, read: u64) -> State {
     State {
         place,
+        microphone,
         read,
         over: true,
     }
 }
 
-fn last(out: &mut [u8], place: Place, read: u64) -> State {
+fn last(out: &mut [u8], place: Place, microphone: Microphone, read: u64) -> State {
     let answer = recording::pieces::finish(place);
     let at = past(listing::end(out, 0, answer, place.skipped), 0);
     if !io::write_all(STDOUT_FILENO, text::part::front(out, at)) {
         fail(b"list: writing the listing");
     }
-    over(place, read)
+    over(place, microphone, read)
 }
 
 fn grown(read: u64, n: usize) -> u64 {
@@ -136,14 +161,16 @@ fn grown(read: u64, n: usize) -> u64 {
 
 fn goes_on(told: Told, before: u64, n: usize) -> State {
     let place = told.place;
+    let microphone = told.microphone;
     let read = grown(before, n);
     if told.failed {
         fail(b"list: writing the listing");
-        return over(place, read);
+        return over(place, microphone, read);
     }
     tell(before, read);
     State {
         place,
+        microphone,
         read,
         over: false,
     }
@@ -153,15 +180,16 @@ fn turn(body: &mut [u8; 1472], out: &mut [u8], state: State) -> State {
     let mut chunk = io::large_buffer();
     let got = libc::read(STDIN_FILENO, &mut chunk);
     let place = state.place;
+    let microphone = state.microphone;
     if got < 0 {
         fail(b"list: reading the recording");
-        return over(place, state.read);
+        return over(place, microphone, state.read);
     }
     let n = io::count(got, &chunk);
     if n == 0 {
-        return last(out, place, state.read);
+        return last(out, place, microphone, state.read);
     }
-    let told = take(&chunk[..n], body, out, place);
+    let told = take(&chunk[..n], body, out, place, microphone);
     goes_on(told, state.read, n)
 }
 
@@ -170,6 +198,7 @@ fn turn(body: &mut [u8; 1472], out: &mut [u8], state: State) -> State {
 pub(crate) fn run(body: &mut [u8; 1472], out: &mut [u8]) {
     let mut state = State {
         place: recording::pieces::begin(),
+        microphone: Microphone::Silent,
         read: 0,
         over: false,
     };

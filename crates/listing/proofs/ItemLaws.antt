@@ -7,6 +7,7 @@ use lib.ListN.{length, length-append}
 use Rattle.codec.specs.Choice.{pick}
 use Rattle.codec.specs.declared.time.Time.{Time}
 use Rattle.codec.specs.declared.item.Item.{Item}
+use Rattle.listing.specs.declared.microphone.Microphone.{Microphone}
 use Rattle.listing.specs.Line.{fixedOf, spread, bytesText, frontText, itemLine}
 use Rattle.listing.proofs.SpreadLaws.{pairs-length}
 
@@ -19,12 +20,12 @@ some-bytes [] h = absurd (h refl)
 some-bytes (b ∷ bs) h = refl
 
 -- cs is what the item carries
-module _ (t : Time) (it : Item) (bs cs : List ℕ) (e : cs ≡ pick (it .carries) bs []) where
-  pub item-bare : length cs ≡ 0 → itemLine t it bs ≡ frontText t it (length bs) ++ (45 ∷ 10 ∷ [])
+module _ (m : Microphone) (t : Time) (it : Item) (bs cs : List ℕ) (e : cs ≡ pick (it .carries) bs []) where
+  pub item-bare : length cs ≡ 0 → itemLine m t it bs ≡ frontText m t it (length bs) ++ (45 ∷ 10 ∷ [])
   unfolding itemLine
-  item-bare h = rw (← e, no-bytes cs h) (append-assoc (frontText t it (length bs)) (45 ∷ []) (10 ∷ []))
+  item-bare h = rw (← e, no-bytes cs h) (append-assoc (frontText m t it (length bs)) (45 ∷ []) (10 ∷ []))
 
-  pub item-loaded : (length cs ≡ 0 → ⊥) → itemLine t it bs ≡ frontText t it (length bs) ++ spread (fixedOf 16 2) cs ++ (10 ∷ [])
+  pub item-loaded : (length cs ≡ 0 → ⊥) → itemLine m t it bs ≡ frontText m t it (length bs) ++ spread (fixedOf 16 2) cs ++ (10 ∷ [])
   unfolding itemLine
   item-loaded h = rw (← e, some-bytes cs h)
 

@@ -1,4 +1,5 @@
 pub mod FixedLaws
+pub mod SignLaws
 pub mod SpreadLaws
 pub mod EscapeLaws
 pub mod ItemLaws
@@ -6,3 +7,4 @@ pub mod Unique
 pub mod Vectors
 pub mod LinesLaws
 pub mod RoomLaws
+pub mod StartLaws

@@ -7,6 +7,7 @@ use native.Mathlib.Omega.{arith}
 use lib.ListN.{length, take, length-append, length-take}
 use lib.Seq.{paste-zero}
 use lib.Dec.{leb, eqb}
+use lib.IntN.{ℤ, pos, negsuc, natAbs}
 use borrow.Author.Tests.{leb-true, leb-false}
 use Rattle.codec.specs.Choice.{pick}
 use Rattle.codec.specs.Number.{Bytes}
@@ -32,13 +33,18 @@ use Rattle.codec.proofs.Stands.{bytes-part}
 use Rattle.recording.specs.declared.field.Found.{Found}
 use Rattle.recording.specs.declared.field.Found.the-variants as Found
 use Rattle.recording.specs.declared.field.Field.{Field}
+use Rattle.tape.specs.Sample.{positionOf}
+use Rattle.tape.specs.declared.sample.Placed.{Placed}
+use Rattle.tape.specs.declared.sample.Placed.the-variants as Placed
 use Rattle.text.specs.Put.{hexes}
 use Rattle.text.proofs.PutLaws.{decimal-length, hexes-length}
 use Rattle.listing.proofs.FixedLaws.{fixed-length}
 use Rattle.listing.proofs.SpreadLaws.{pairs-length}
 use Rattle.listing.proofs.EscapeLaws.{note-length}
 use Rattle.listing.proofs.LinesLaws.{lines-past, lines-bad, lines-item}
-use Rattle.listing.specs.Line.{fieldText, hexText, timeText, kindText, isFd, busText, idDigits, canText, channelsText, flexrayText, errorText, identText, stateText, loadText, bytesText, placeText, shownText, frontText, itemLine, frameLine, startLine, pairLine, refusedLine, skippedLine, noteLine, plain, escapeOf, spread}
+use Rattle.listing.specs.declared.microphone.Microphone.{Microphone}
+use Rattle.listing.specs.declared.microphone.Microphone.the-variants as Microphone
+use Rattle.listing.specs.Line.{fieldText, hexText, timeText, signText, signedText, placedText, positionText, kindText, isFd, busText, idDigits, canText, channelsText, flexrayText, errorText, identText, stateText, loadText, bytesText, placeText, shownText, frontText, itemLine, frameLine, startLine, pairLine, refusedLine, skippedLine, noteLine, plain, escapeOf, spread}
 use Rattle.listing.specs.Field.{Text, itemLines, foundLines, fieldLines, with, withAll, textOf, wholeOf}
 
 text-as : {b b' : List ℕ} {a a' : ℕ} → b ≡ b' → a ≡ a' → _≡_ {A = Text} (record { bytes = b; at = a }) (record { bytes = b'; at = a' })
@@ -73,6 +79,22 @@ time-most t =
     let a = field-most (t .sec) in
     let b = fixed-length 10 9 (t .nano) in
     simp length-append (omega arith)
+
+sign-most : (z : ℤ) → length (signText z) ≤ 2
+sign-most (pos n) = omega arith
+sign-most (negsuc n) = omega arith
+
+placed-most : (p : Placed) → length (placedText p) ≤ 22
+unfolding signedText
+placed-most (Placed.Sample z) =
+    let a = sign-most z in
+    let b = decimal-length (natAbs z) in
+    simp length-append (omega arith)
+placed-most (Placed.Refused answer) = omega arith
+
+position-most : (m : Microphone) (t : Time) → length (positionText m t) ≤ 22
+position-most Microphone.Silent t = omega arith
+position-most (Microphone.Since start) t = placed-most (positionOf start t)
 
 kind-most : (k : Kind) → length (kindText k) ≤ 8
 kind-most Kind.Can = omega arith
@@ -132,10 +154,11 @@ bytes-most : (bs : List ℕ) → length (bytesText bs) ≤ 1 + 2 * length bs
 bytes-most [] = omega arith
 bytes-most (b ∷ bs) = let a = pairs-length (b ∷ bs) in omega arith
 
-front-most : (t : Time) (it : Item) (n : ℕ) → length (frontText t it n) ≤ 136
+front-most : (m : Microphone) (t : Time) (it : Item) (n : ℕ) → length (frontText m t it n) ≤ 156
 unfolding frontText placeText shownText
-front-most t it n =
+front-most m t it n =
     let a = time-most t in
+    let p = position-most m t in
     let b = bus-most (it .ident) in
     let d = field-most (it .network) in
     let e = ident-most (it .ident) in
@@ -143,25 +166,25 @@ front-most t it n =
     let g = load-most (it .carries) n in
     simp length-append (omega arith)
 
-carried-most : (c : Bool) (bs : List ℕ) → 2 * length (pick c bs []) ≤ 36 * loadLength c (length bs)
+carried-most : (c : Bool) (bs : List ℕ) → 2 * length (pick c bs []) ≤ 40 * loadLength c (length bs)
 carried-most true bs = omega arith
 carried-most false bs = omega arith
 
--- an item's line is at most 36 times as long as the item
-item-most : (t : Time) (it : Item) (bs : List ℕ) → length (itemLine t it bs) ≤ 36 * length (encode it bs)
+-- an item's line is at most 40 times as long as the item
+item-most : (m : Microphone) (t : Time) (it : Item) (bs : List ℕ) → length (itemLine m t it bs) ≤ 40 * length (encode it bs)
 unfolding itemLine
-item-most t it bs =
-    let a = front-most t it (length bs) in
+item-most m t it bs =
+    let a = front-most m t it (length bs) in
     let b = bytes-most (pick (it .carries) bs []) in
     let d = encode-length it bs in
     let e = carried-most (it .carries) bs in
     rw d (simp length-append (omega arith))
 
 -- and so those of all items from a place on
-module _ (t : Time) (s : List ℕ) (b : Bytes s) where
-  items-step : (n at : ℕ) → at < length s → ((next : ℕ) → at < next → length (textOf (itemLines t s next)) ≤ 36 * (length s - next))
-      → (r : ItemRead) → readItem s at ≡ r → length (textOf (itemLines t s at)) ≤ 36 * (length s - at)
-  items-step n at h ih (ItemRead.Refused why) q = rw (lines-bad t s at h q) (omega arith)
+module _ (m : Microphone) (t : Time) (s : List ℕ) (b : Bytes s) where
+  items-step : (n at : ℕ) → at < length s → ((next : ℕ) → at < next → length (textOf (itemLines m t s next)) ≤ 40 * (length s - next))
+      → (r : ItemRead) → readItem s at ≡ r → length (textOf (itemLines m t s at)) ≤ 40 * (length s - at)
+  items-step n at h ih (ItemRead.Refused why) q = rw (lines-bad m t s at h q) (omega arith)
   items-step n at h ih (ItemRead.Got it start len next) q =
       let f = item-forth s at b q in
       let e = f .ends in
@@ -169,16 +192,16 @@ module _ (t : Time) (s : List ℕ) (b : Bytes s) where
       let lo = r .0 in
       let hi = r .1 in
       let i = ih next (omega arith) in
-      let m = item-most (recoveredOf t (it .offset .0)) it (bytesAt s start len) in
-      rw (lines-item t s at h q, length-append (itemLine (recoveredOf t (it .offset .0)) it (bytesAt s start len)) (textOf (itemLines t s next))) (omega arith)
+      let w = item-most m (recoveredOf t (it .offset .0)) it (bytesAt s start len) in
+      rw (lines-item m t s at h q, length-append (itemLine m (recoveredOf t (it .offset .0)) it (bytesAt s start len)) (textOf (itemLines m t s next))) (omega arith)
 
-  items-most : (n at : ℕ) → length s - at ≤ n → length (textOf (itemLines t s at)) ≤ 36 * (length s - at)
-  items-most zero at h = rw (lines-past t s at (omega arith)) (omega arith)
+  items-most : (n at : ℕ) → length s - at ≤ n → length (textOf (itemLines m t s at)) ≤ 40 * (length s - at)
+  items-most zero at h = rw (lines-past m t s at (omega arith)) (omega arith)
   items-most (suc n) at h = go (leb (length s) at) refl (λ next k. items-most n next (omega arith))
     where
-      go : (c : Bool) → leb (length s) at ≡ c → ((next : ℕ) → at < next → length (textOf (itemLines t s next)) ≤ 36 * (length s - next))
-          → length (textOf (itemLines t s at)) ≤ 36 * (length s - at)
-      go true e ih = rw (lines-past t s at (leb-true (length s) at e)) (omega arith)
+      go : (c : Bool) → leb (length s) at ≡ c → ((next : ℕ) → at < next → length (textOf (itemLines m t s next)) ≤ 40 * (length s - next))
+          → length (textOf (itemLines m t s at)) ≤ 40 * (length s - at)
+      go true e ih = rw (lines-past m t s at (leb-true (length s) at e)) (omega arith)
       go false e ih = items-step n at (leb-false (length s) at e) ih (readItem s at) refl
 
 -- a field's lines together
@@ -214,12 +237,12 @@ spread-most (b ∷ bs) =
     let r = spread-most bs in
     rw (length-append (escapeOf b) (spread escapeOf bs)) (omega arith)
 
-module _ (tag n : ℕ) (body : List ℕ) (b : Bytes body) (h : length body ≤ 1472) where
-  found-most : (f : Found) → length (textOf (foundLines tag n f body)) ≤ 65536
+module _ (m : Microphone) (tag n : ℕ) (body : List ℕ) (b : Bytes body) (h : length body ≤ 1472) where
+  found-most : (f : Found) → length (textOf (foundLines m tag n f body)) ≤ 65536
   found-most (Found.Frame x) =
       let a = frame-most x in
-      let d = items-most (x .time) body b (length body - 14) 14 (omega arith) in
-      rw (length-append (frameLine x) (textOf (itemLines (x .time) body 14))) (omega arith)
+      let d = items-most m (x .time) body b (length body - 14) 14 (omega arith) in
+      rw (length-append (frameLine x) (textOf (itemLines m (x .time) body 14))) (omega arith)
   found-most Found.Note =
       let a = spread-most body in
       let d = note-length body in
@@ -233,9 +256,9 @@ module _ (tag n : ℕ) (body : List ℕ) (b : Bytes body) (h : length body ≤ 1
       rw (append-nil (skippedLine tag n)) (omega arith)
 
 -- a field of a recording, its body in a buffer of 1,472 bytes
-pub none-left-out : (f : Field) (buffer : List ℕ) (t : Text) → Bytes buffer → length buffer ≤ 1472 → t .at + 65536 ≤ length (t .bytes)
-    → withAll t (fieldLines f buffer) ≡ wholeOf t (textOf (fieldLines f buffer))
-none-left-out f buffer t b h r =
+pub none-left-out : (m : Microphone) (f : Field) (buffer : List ℕ) (t : Text) → Bytes buffer → length buffer ≤ 1472 → t .at + 65536 ≤ length (t .bytes)
+    → withAll t (fieldLines m f buffer) ≡ wholeOf t (textOf (fieldLines m f buffer))
+none-left-out m f buffer t b h r =
     let k : length (take (f .length) buffer) ≤ 1472 = rw (length-take (f .length) buffer) (omega arith) in
-    let m = found-most (f .tag) (f .length) (take (f .length) buffer) (bytes-part buffer 0 (f .length) b) k (f .found) in
-    all-room (fieldLines f buffer) t (omega arith)
+    let w = found-most m (f .tag) (f .length) (take (f .length) buffer) (bytes-part buffer 0 (f .length) b) k (f .found) in
+    all-room (fieldLines m f buffer) t (omega arith)

@@ -11,6 +11,7 @@ use Rattle.codec.specs.declared.item.State.{State}
 use Rattle.codec.specs.declared.item.State.the-variants as State
 use Rattle.codec.specs.declared.item.Item.{Item}
 use Rattle.text.specs.Put.{letterOf, decimals, decimalOf}
+use Rattle.listing.specs.declared.microphone.Microphone.the-variants as Microphone
 use Rattle.listing.specs.Line.{capitalOf, fixedOf, fieldText, hexText, timeText, busText, idDigits, canText, channelsText, flexrayText, errorText, placeText, shownText, frontText, itemLine, frameLine, startLine, pairLine, refusedLine, skippedLine, endLine, plain, escapeOf, noteLine}
 
 abbrev five : Time
@@ -21,37 +22,37 @@ abbrev made : State → Ident → Bool → Item
 made state ident carries = record { offset = record { 0 = 0 }; network = 9; state = state; ident = ident; carries = carries }
 
 -- "  5.000000001 - CANFD 9 01ABCDEF 40 1 AA"
-can-fd : itemLine five (made (State.Byte 0x40) (Ident.Can 0xc1abcdef) true) (0xaa ∷ []) ≡ 32 ∷ 32 ∷ 53 ∷ 46 ∷ 48 ∷ 48 ∷ 48 ∷ 48 ∷ 48 ∷ 48 ∷ 48 ∷ 48 ∷ 49 ∷ 32 ∷ 45 ∷ 32 ∷ 67 ∷ 65 ∷ 78 ∷ 70 ∷ 68 ∷ 32 ∷ 57 ∷ 32 ∷ 48 ∷ 49 ∷ 65 ∷ 66 ∷ 67 ∷ 68 ∷ 69 ∷ 70 ∷ 32 ∷ 52 ∷ 48 ∷ 32 ∷ 49 ∷ 32 ∷ 65 ∷ 65 ∷ 10 ∷ []
+can-fd : itemLine Microphone.Silent five (made (State.Byte 0x40) (Ident.Can 0xc1abcdef) true) (0xaa ∷ []) ≡ 32 ∷ 32 ∷ 53 ∷ 46 ∷ 48 ∷ 48 ∷ 48 ∷ 48 ∷ 48 ∷ 48 ∷ 48 ∷ 48 ∷ 49 ∷ 32 ∷ 45 ∷ 32 ∷ 67 ∷ 65 ∷ 78 ∷ 70 ∷ 68 ∷ 32 ∷ 57 ∷ 32 ∷ 48 ∷ 49 ∷ 65 ∷ 66 ∷ 67 ∷ 68 ∷ 69 ∷ 70 ∷ 32 ∷ 52 ∷ 48 ∷ 32 ∷ 49 ∷ 32 ∷ 65 ∷ 65 ∷ 10 ∷ []
 unfolding itemLine frontText placeText shownText busText decimalOf decimals fixedOf capitalOf fieldText timeText canText idDigits hexText canFd
 can-fd = refl
 
 -- "  5.000000001 - CANFD 9 123 - 1 00"
-can-fd-standard : itemLine five (made State.Absent (Ident.Can 0x40000123) true) (0x00 ∷ []) ≡ 32 ∷ 32 ∷ 53 ∷ 46 ∷ 48 ∷ 48 ∷ 48 ∷ 48 ∷ 48 ∷ 48 ∷ 48 ∷ 48 ∷ 49 ∷ 32 ∷ 45 ∷ 32 ∷ 67 ∷ 65 ∷ 78 ∷ 70 ∷ 68 ∷ 32 ∷ 57 ∷ 32 ∷ 49 ∷ 50 ∷ 51 ∷ 32 ∷ 45 ∷ 32 ∷ 49 ∷ 32 ∷ 48 ∷ 48 ∷ 10 ∷ []
+can-fd-standard : itemLine Microphone.Silent five (made State.Absent (Ident.Can 0x40000123) true) (0x00 ∷ []) ≡ 32 ∷ 32 ∷ 53 ∷ 46 ∷ 48 ∷ 48 ∷ 48 ∷ 48 ∷ 48 ∷ 48 ∷ 48 ∷ 48 ∷ 49 ∷ 32 ∷ 45 ∷ 32 ∷ 67 ∷ 65 ∷ 78 ∷ 70 ∷ 68 ∷ 32 ∷ 57 ∷ 32 ∷ 49 ∷ 50 ∷ 51 ∷ 32 ∷ 45 ∷ 32 ∷ 49 ∷ 32 ∷ 48 ∷ 48 ∷ 10 ∷ []
 unfolding itemLine frontText placeText shownText busText decimalOf decimals fixedOf capitalOf fieldText timeText canText idDigits hexText canFd
 can-fd-standard = refl
 
 -- "  5.000000001 - CAN 9 0A3 - 2 01F2"
-can : itemLine five (made State.Absent (Ident.Can 0xa3) true) (0x01 ∷ 0xf2 ∷ []) ≡ 32 ∷ 32 ∷ 53 ∷ 46 ∷ 48 ∷ 48 ∷ 48 ∷ 48 ∷ 48 ∷ 48 ∷ 48 ∷ 48 ∷ 49 ∷ 32 ∷ 45 ∷ 32 ∷ 67 ∷ 65 ∷ 78 ∷ 32 ∷ 57 ∷ 32 ∷ 48 ∷ 65 ∷ 51 ∷ 32 ∷ 45 ∷ 32 ∷ 50 ∷ 32 ∷ 48 ∷ 49 ∷ 70 ∷ 50 ∷ 10 ∷ []
+can : itemLine Microphone.Silent five (made State.Absent (Ident.Can 0xa3) true) (0x01 ∷ 0xf2 ∷ []) ≡ 32 ∷ 32 ∷ 53 ∷ 46 ∷ 48 ∷ 48 ∷ 48 ∷ 48 ∷ 48 ∷ 48 ∷ 48 ∷ 48 ∷ 49 ∷ 32 ∷ 45 ∷ 32 ∷ 67 ∷ 65 ∷ 78 ∷ 32 ∷ 57 ∷ 32 ∷ 48 ∷ 65 ∷ 51 ∷ 32 ∷ 45 ∷ 32 ∷ 50 ∷ 32 ∷ 48 ∷ 49 ∷ 70 ∷ 50 ∷ 10 ∷ []
 unfolding itemLine frontText placeText shownText busText decimalOf decimals fixedOf capitalOf fieldText timeText canText idDigits hexText canFd
 can = refl
 
 -- "  5.000000001 - LIN 9 7D 00 1 FF"
-lin : itemLine five (made (State.Byte 0) (Ident.Lin 0x7d) true) (0xff ∷ []) ≡ 32 ∷ 32 ∷ 53 ∷ 46 ∷ 48 ∷ 48 ∷ 48 ∷ 48 ∷ 48 ∷ 48 ∷ 48 ∷ 48 ∷ 49 ∷ 32 ∷ 45 ∷ 32 ∷ 76 ∷ 73 ∷ 78 ∷ 32 ∷ 57 ∷ 32 ∷ 55 ∷ 68 ∷ 32 ∷ 48 ∷ 48 ∷ 32 ∷ 49 ∷ 32 ∷ 70 ∷ 70 ∷ 10 ∷ []
+lin : itemLine Microphone.Silent five (made (State.Byte 0) (Ident.Lin 0x7d) true) (0xff ∷ []) ≡ 32 ∷ 32 ∷ 53 ∷ 46 ∷ 48 ∷ 48 ∷ 48 ∷ 48 ∷ 48 ∷ 48 ∷ 48 ∷ 48 ∷ 49 ∷ 32 ∷ 45 ∷ 32 ∷ 76 ∷ 73 ∷ 78 ∷ 32 ∷ 57 ∷ 32 ∷ 55 ∷ 68 ∷ 32 ∷ 48 ∷ 48 ∷ 32 ∷ 49 ∷ 32 ∷ 70 ∷ 70 ∷ 10 ∷ []
 unfolding itemLine frontText placeText shownText busText decimalOf decimals fixedOf capitalOf fieldText timeText hexText
 lin = refl
 
 -- "  5.000000001 - FLEXRAY 9 AB:1027:63 - 0 -"
-flexray : itemLine five (made State.Absent (Ident.FlexRay 3 1027 63) true) [] ≡ 32 ∷ 32 ∷ 53 ∷ 46 ∷ 48 ∷ 48 ∷ 48 ∷ 48 ∷ 48 ∷ 48 ∷ 48 ∷ 48 ∷ 49 ∷ 32 ∷ 45 ∷ 32 ∷ 70 ∷ 76 ∷ 69 ∷ 88 ∷ 82 ∷ 65 ∷ 89 ∷ 32 ∷ 57 ∷ 32 ∷ 65 ∷ 66 ∷ 58 ∷ 49 ∷ 48 ∷ 50 ∷ 55 ∷ 58 ∷ 54 ∷ 51 ∷ 32 ∷ 45 ∷ 32 ∷ 48 ∷ 32 ∷ 45 ∷ 10 ∷ []
+flexray : itemLine Microphone.Silent five (made State.Absent (Ident.FlexRay 3 1027 63) true) [] ≡ 32 ∷ 32 ∷ 53 ∷ 46 ∷ 48 ∷ 48 ∷ 48 ∷ 48 ∷ 48 ∷ 48 ∷ 48 ∷ 48 ∷ 49 ∷ 32 ∷ 45 ∷ 32 ∷ 70 ∷ 76 ∷ 69 ∷ 88 ∷ 82 ∷ 65 ∷ 89 ∷ 32 ∷ 57 ∷ 32 ∷ 65 ∷ 66 ∷ 58 ∷ 49 ∷ 48 ∷ 50 ∷ 55 ∷ 58 ∷ 54 ∷ 51 ∷ 32 ∷ 45 ∷ 32 ∷ 48 ∷ 32 ∷ 45 ∷ 10 ∷ []
 unfolding itemLine frontText placeText shownText busText decimalOf decimals fixedOf capitalOf fieldText timeText flexrayText channelsText
 flexray = refl
 
 -- "  5.000000001 - FLEXRAY 9 B:-:- 05 - -": a payload that the item does not carry is not shown
-error : itemLine five (made (State.Byte 5) (Ident.FlexRayError 2) false) (0xff ∷ []) ≡ 32 ∷ 32 ∷ 53 ∷ 46 ∷ 48 ∷ 48 ∷ 48 ∷ 48 ∷ 48 ∷ 48 ∷ 48 ∷ 48 ∷ 49 ∷ 32 ∷ 45 ∷ 32 ∷ 70 ∷ 76 ∷ 69 ∷ 88 ∷ 82 ∷ 65 ∷ 89 ∷ 32 ∷ 57 ∷ 32 ∷ 66 ∷ 58 ∷ 45 ∷ 58 ∷ 45 ∷ 32 ∷ 48 ∷ 53 ∷ 32 ∷ 45 ∷ 32 ∷ 45 ∷ 10 ∷ []
+error : itemLine Microphone.Silent five (made (State.Byte 5) (Ident.FlexRayError 2) false) (0xff ∷ []) ≡ 32 ∷ 32 ∷ 53 ∷ 46 ∷ 48 ∷ 48 ∷ 48 ∷ 48 ∷ 48 ∷ 48 ∷ 48 ∷ 48 ∷ 49 ∷ 32 ∷ 45 ∷ 32 ∷ 70 ∷ 76 ∷ 69 ∷ 88 ∷ 82 ∷ 65 ∷ 89 ∷ 32 ∷ 57 ∷ 32 ∷ 66 ∷ 58 ∷ 45 ∷ 58 ∷ 45 ∷ 32 ∷ 48 ∷ 53 ∷ 32 ∷ 45 ∷ 32 ∷ 45 ∷ 10 ∷ []
 unfolding itemLine frontText placeText shownText busText decimalOf decimals fixedOf capitalOf fieldText timeText errorText channelsText hexText
 error = refl
 
 -- "  5.000000001 - CAN 9 - 80 - -"
-bare : itemLine five (made (State.Byte 0x80) (Ident.Bare Kind.Can) false) [] ≡ 32 ∷ 32 ∷ 53 ∷ 46 ∷ 48 ∷ 48 ∷ 48 ∷ 48 ∷ 48 ∷ 48 ∷ 48 ∷ 48 ∷ 49 ∷ 32 ∷ 45 ∷ 32 ∷ 67 ∷ 65 ∷ 78 ∷ 32 ∷ 57 ∷ 32 ∷ 45 ∷ 32 ∷ 56 ∷ 48 ∷ 32 ∷ 45 ∷ 32 ∷ 45 ∷ 10 ∷ []
+bare : itemLine Microphone.Silent five (made (State.Byte 0x80) (Ident.Bare Kind.Can) false) [] ≡ 32 ∷ 32 ∷ 53 ∷ 46 ∷ 48 ∷ 48 ∷ 48 ∷ 48 ∷ 48 ∷ 48 ∷ 48 ∷ 48 ∷ 49 ∷ 32 ∷ 45 ∷ 32 ∷ 67 ∷ 65 ∷ 78 ∷ 32 ∷ 57 ∷ 32 ∷ 45 ∷ 32 ∷ 56 ∷ 48 ∷ 32 ∷ 45 ∷ 32 ∷ 45 ∷ 10 ∷ []
 unfolding itemLine frontText placeText shownText busText decimalOf decimals fixedOf capitalOf fieldText timeText hexText
 bare = refl
 

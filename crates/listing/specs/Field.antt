@@ -13,27 +13,28 @@ use Rattle.reader.specs.Frame.{itemsOf}
 use Rattle.recording.specs.declared.field.Found.{Found}
 use Rattle.recording.specs.declared.field.Found.the-variants as Found
 use Rattle.recording.specs.declared.field.Field.{Field}
+use Rattle.listing.specs.declared.microphone.Microphone.{Microphone}
 use Rattle.listing.specs.Line.{frameLine, itemLine, noteLine, startLine, refusedLine, skippedLine}
 
 -- an item of a frame with this header time
-abbrev pub entryLine : Time → Entry → List ℕ
-entryLine t e = itemLine (recoveredOf t (e .item .offset .0)) (e .item) (e .payload)
+abbrev pub entryLine : Microphone → Time → Entry → List ℕ
+entryLine m t e = itemLine m (recoveredOf t (e .item .offset .0)) (e .item) (e .payload)
 
 -- the items of a frame from a place on, in order
-unfoldable pub itemLines : Time → List ℕ → ℕ → List (List ℕ)
-itemLines t s at = map (entryLine t) (itemsOf s at)
+unfoldable pub itemLines : Microphone → Time → List ℕ → ℕ → List (List ℕ)
+itemLines m t s at = map (entryLine m t) (itemsOf s at)
 
 -- the header's line and then the items'; of everything else one line
-abbrev pub foundLines : ℕ → ℕ → Found → List ℕ → List (List ℕ)
-foundLines tag n (Found.Frame h) body = frameLine h ∷ itemLines (h .time) body 14
-foundLines tag n Found.Note body = noteLine body ∷ []
-foundLines tag n (Found.Start t) body = startLine t ∷ []
-foundLines tag n (Found.Refused answer) body = refusedLine tag answer ∷ []
-foundLines tag n Found.Skipped body = skippedLine tag n ∷ []
+abbrev pub foundLines : Microphone → ℕ → ℕ → Found → List ℕ → List (List ℕ)
+foundLines m tag n (Found.Frame h) body = frameLine h ∷ itemLines m (h .time) body 14
+foundLines m tag n Found.Note body = noteLine body ∷ []
+foundLines m tag n (Found.Start t) body = startLine t ∷ []
+foundLines m tag n (Found.Refused answer) body = refusedLine tag answer ∷ []
+foundLines m tag n Found.Skipped body = skippedLine tag n ∷ []
 
 -- the body is the front of the buffer
-abbrev pub fieldLines : Field → List ℕ → List (List ℕ)
-fieldLines f buffer = foundLines (f .tag) (f .length) (f .found) (take (f .length) buffer)
+abbrev pub fieldLines : Microphone → Field → List ℕ → List (List ℕ)
+fieldLines m f buffer = foundLines m (f .tag) (f .length) (f .found) (take (f .length) buffer)
 
 -- an output, and where writing goes on in it
 pub record Text : Type 0 where

@@ -4,6 +4,7 @@ use mathlib.Core.Bool.{Bool, true, false, _&&_, not}
 use mathlib.Core.List.{List, [], _∷_, _++_}
 use lib.ListN.{length}
 use lib.Dec.{ltb, leb, eqb}
+use lib.IntN.{ℤ, pos, negsuc, natAbs}
 use Rattle.codec.specs.Choice.{pick}
 use Rattle.codec.specs.Ident.{kindOf, canFd}
 use Rattle.codec.specs.declared.time.Time.{Time}
@@ -15,7 +16,14 @@ use Rattle.codec.specs.declared.ident.Ident.the-variants as Ident
 use Rattle.codec.specs.declared.item.State.{State}
 use Rattle.codec.specs.declared.item.State.the-variants as State
 use Rattle.codec.specs.declared.item.Item.{Item}
+use Rattle.recording.specs.declared.field.Found.{Found}
+use Rattle.recording.specs.declared.field.Found.the-variants as Found
+use Rattle.tape.specs.Sample.{positionOf}
+use Rattle.tape.specs.declared.sample.Placed.{Placed}
+use Rattle.tape.specs.declared.sample.Placed.the-variants as Placed
 use Rattle.text.specs.Put.{decimalOf, hexes}
+use Rattle.listing.specs.declared.microphone.Microphone.{Microphone}
+use Rattle.listing.specs.declared.microphone.Microphone.the-variants as Microphone
 
 -- '0' to '9' and 'A' to 'F'
 unfoldable pub capitalOf : ℕ → ℕ
@@ -46,6 +54,31 @@ dash = 32 ∷ 45 ∷ []
 -- TIME: the seconds, a point (46), and the last nine digits of the nanoseconds
 unfoldable pub timeText : Time → List ℕ
 timeText t = fieldText (t .sec) ++ (46 ∷ []) ++ fixedOf 10 9 (t .nano)
+
+-- a minus sign (45) before the digits of a number below zero
+abbrev pub signText : ℤ → List ℕ
+signText (pos n) = 32 ∷ []
+signText (negsuc n) = 32 ∷ 45 ∷ []
+
+unfoldable pub signedText : ℤ → List ℕ
+signedText z = signText z ++ decimalOf (natAbs z)
+
+abbrev pub placedText : Placed → List ℕ
+placedText (Placed.Sample n) = signedText n
+placedText (Placed.Refused answer) = dash
+
+-- POSITION: from the latest good start; '-' before one, and where 61 applies
+abbrev pub positionText : Microphone → Time → List ℕ
+positionText Microphone.Silent t = dash
+positionText (Microphone.Since start) t = placedText (positionOf start t)
+
+-- the start in force after a field: a good one takes the place of the earlier one, and nothing else does
+abbrev pub afterOf : Microphone → Found → Microphone
+afterOf m (Found.Frame h) = m
+afterOf m Found.Note = m
+afterOf m (Found.Start t) = Microphone.Since t
+afterOf m (Found.Refused answer) = m
+afterOf m Found.Skipped = m
 
 -- "CAN", "LIN", "FLEXRAY"
 abbrev pub kindText : Kind → List ℕ
@@ -108,20 +141,20 @@ abbrev pub bytesText : List ℕ → List ℕ
 bytesText [] = 45 ∷ []
 bytesText (b ∷ bs) = spread (fixedOf 16 2) (b ∷ bs)
 
--- "  TIME - BUS NETWORK": the '-' is the position, which is not told yet
-unfoldable pub placeText : Time → Item → List ℕ
-placeText t it = (32 ∷ []) ++ timeText t ++ dash ++ busText (it .ident) ++ fieldText (it .network)
+-- "  TIME POSITION BUS NETWORK"
+unfoldable pub placeText : Microphone → Time → Item → List ℕ
+placeText m t it = (32 ∷ []) ++ timeText t ++ positionText m t ++ busText (it .ident) ++ fieldText (it .network)
 
 -- " ID STATE LENGTH "
 unfoldable pub shownText : Item → ℕ → List ℕ
 shownText it n = identText (it .ident) ++ stateText (it .state) ++ loadText (it .carries) n ++ (32 ∷ [])
 
-unfoldable pub frontText : Time → Item → ℕ → List ℕ
-frontText t it n = placeText t it ++ shownText it n
+unfoldable pub frontText : Microphone → Time → Item → ℕ → List ℕ
+frontText m t it n = placeText m t it ++ shownText it n
 
--- "  TIME - BUS NETWORK ID STATE LENGTH BYTES"
-unfoldable pub itemLine : Time → Item → List ℕ → List ℕ
-itemLine t it bs = frontText t it (length bs) ++ bytesText (pick (it .carries) bs []) ++ (10 ∷ [])
+-- "  TIME POSITION BUS NETWORK ID STATE LENGTH BYTES"
+unfoldable pub itemLine : Microphone → Time → Item → List ℕ → List ℕ
+itemLine m t it bs = frontText m t it (length bs) ++ bytesText (pick (it .carries) bs []) ++ (10 ∷ [])
 
 -- "frame SEQUENCE TIME DATALENGTH"
 unfoldable pub frameLine : Header → List ℕ

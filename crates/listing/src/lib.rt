@@ -3,9 +3,11 @@ mod digit;
 mod escape;
 mod field;
 mod line;
+mod microphone;
 mod word;
 
 pub use escape::note;
+pub use field::Cursor;
 pub use field::lines;
 pub use line::end;
 pub use line::frame;
@@ -13,3 +15,4 @@ pub use line::item;
 pub use line::refused;
 pub use line::skipped;
 pub use line::start;
+pub use microphone::Microphone;

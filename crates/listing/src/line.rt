@@ -1,5 +1,6 @@
 // Lines of a bounded length, laid into a local text first, so that an output without room for the whole
 // of a line is left as it was; and the line of an item, whose bytes may be many.
+use crate::microphone::Microphone;
 use codec::header::Header;
 use codec::item::Item;
 use codec::number::Put;
@@ -90,15 +91,14 @@ pub fn end(out: &mut [u8], at: usize, answer: u8, skipped: u32) -> Put
     pair(out, at, b"end", answer as u64, skipped as u64)
 }
 
-// Its place on the tape is not told yet.
-fn lay_place(out: &mut [u8], t: Time, it: Item) -> usize
+fn lay_place(out: &mut [u8], microphone: Microphone, t: Time, it: Item) -> usize
     requires { ⌜ 256 ≤ length (now out) ⌝ }
-    ensures { λ r. ⌜ Short 65 (now (out .entry)) 0 (placeText t it) (now (out .exit)) r ⌝ }
+    ensures { λ r. ⌜ Short 85 (now (out .entry)) 0 (placeText microphone t it) (now (out .exit)) r ⌝ }
 {
     let id = it.ident;
     let a = crate::word::lay(out, 0, b" ");
     let b = crate::word::time(out, a, t);
-    let d = crate::word::lay(out, b, b" -");
+    let d = crate::word::position(out, b, microphone, t);
     let e = crate::word::bus(out, d, id);
     crate::word::field(out, e, it.network as u64)
 }
@@ -116,11 +116,11 @@ fn lay_shown(out: &mut [u8], at: usize, it: Item, n: usize) -> usize
 }
 
 // What stands before an item's bytes.
-fn lay_front(out: &mut [u8], t: Time, it: Item, n: usize) -> usize
+fn lay_front(out: &mut [u8], microphone: Microphone, t: Time, it: Item, n: usize) -> usize
     requires { ⌜ 256 ≤ length (now out) ⌝ }
-    ensures { λ r. ⌜ Short 141 (now (out .entry)) 0 (frontText t it n) (now (out .exit)) r ⌝ }
+    ensures { λ r. ⌜ Short 161 (now (out .entry)) 0 (frontText microphone t it n) (now (out .exit)) r ⌝ }
 {
-    let a = lay_place(out, t, it);
+    let a = lay_place(out, microphone, t, it);
     lay_shown(out, a, it, n)
 }
 
@@ -152,11 +152,18 @@ fn carried(carries: bool, payload: &[u8]) -> &[u8]
     if carries { payload } else { &payload[..0] }
 }
 
-pub fn item(out: &mut [u8], at: usize, time: Time, it: Item, payload: &[u8]) -> Put
-    ensures { λ r. ⌜ Wrote true (now (out .entry)) at (itemLine time it (now (payload .entry))) (now (out .exit)) r ⌝ }
+pub fn item(
+    out: &mut [u8],
+    at: usize,
+    microphone: Microphone,
+    time: Time,
+    it: Item,
+    payload: &[u8],
+) -> Put
+    ensures { λ r. ⌜ Wrote true (now (out .entry)) at (itemLine microphone time it (now (payload .entry))) (now (out .exit)) r ⌝ }
 {
     let mut text = [0u8; 256];
-    let n = lay_front(&mut text, time, it, payload.len());
+    let n = lay_front(&mut text, microphone, time, it, payload.len());
     let bytes = carried(it.carries, payload);
     if bytes.len() == 0 {
         let m = crate::word::lay(&mut text, n, b"-\n");

@@ -1,18 +1,21 @@
 // The words of a line, each after a space. They are laid where the caller has seen that there is room.
+use crate::microphone::Microphone;
 use codec::ident::Ident;
 use codec::ident::Kind;
 use codec::item::State;
 use codec::number::Put;
 use codec::time::Time;
+use tape::Placed;
 ghost use mathlib.Core.Path.{_≡_};
 ghost use mathlib.Core.List.{[]};
 ghost use Prim.Native.Nat.{_+_, _%_, _^_, _≤_};
 ghost use lib.ListN.{length};
+ghost use lib.IntN.{natAbs};
 ghost use Rattle.codec.specs.Choice.{pick};
 ghost use Rattle.codec.specs.Number.{Below};
 ghost use Rattle.text.specs.Put.{decimalOf};
 ghost use Rattle.text.specs.Short.{Short};
-ghost use Rattle.listing.specs.Line.{fieldText, hexText, timeText, kindText, isFd, busText, idDigits, canText, channelsText, flexrayText, errorText, identText, stateText, loadText};
+ghost use Rattle.listing.specs.Line.{fieldText, hexText, timeText, signText, signedText, placedText, positionText, kindText, isFd, busText, idDigits, canText, channelsText, flexrayText, errorText, identText, stateText, loadText};
 
 pub(crate) fn lay(out: &mut [u8], at: usize, s: &[u8]) -> usize
     requires { ⌜ at + length (now s) ≤ length (now out) ⌝ }
@@ -56,6 +59,52 @@ pub(crate) fn time(out: &mut [u8], at: usize, t: Time) -> usize
     let a = field(out, at, t.sec);
     let b = lay(out, a, b".");
     crate::digit::fixed(out, b, 10, 9, t.nano as u64)
+}
+
+// Its own negative does not fit the least number, so one less is turned round and then the one is added.
+fn size(n: i64) -> u64
+    ensures { λ r. ⌜ r ≡ natAbs n ⌝ }
+{
+    if n < 0 { (-1 - n) as u64 + 1 } else { n as u64 }
+}
+
+fn sign(out: &mut [u8], at: usize, n: i64) -> usize
+    requires { ⌜ at + 2 ≤ length (now out) ⌝ }
+    ensures { λ r. ⌜ Short 2 (now (out .entry)) at (signText n) (now (out .exit)) r ⌝ }
+{
+    if n < 0 {
+        lay(out, at, b" -")
+    } else {
+        lay(out, at, b" ")
+    }
+}
+
+fn signed(out: &mut [u8], at: usize, n: i64) -> usize
+    requires { ⌜ at + 22 ≤ length (now out) ⌝ }
+    ensures { λ r. ⌜ Short 22 (now (out .entry)) at (signedText n) (now (out .exit)) r ⌝ }
+{
+    let start = sign(out, at, n);
+    number(out, start, size(n))
+}
+
+fn placed(out: &mut [u8], at: usize, p: Placed) -> usize
+    requires { ⌜ at + 22 ≤ length (now out) ⌝ }
+    ensures { λ r. ⌜ Short 22 (now (out .entry)) at (placedText p) (now (out .exit)) r ⌝ }
+{
+    match p {
+        Placed::Sample(n) => signed(out, at, n),
+        Placed::Refused(_) => lay(out, at, b" -"),
+    }
+}
+
+pub(crate) fn position(out: &mut [u8], at: usize, microphone: Microphone, t: Time) -> usize
+    requires { ⌜ at + 22 ≤ length (now out) ⌝ }
+    ensures { λ r. ⌜ Short 22 (now (out .entry)) at (positionText microphone t) (now (out .exit)) r ⌝ }
+{
+    match microphone {
+        Microphone::Silent => lay(out, at, b" -"),
+        Microphone::Since(start) => placed(out, at, tape::position(start, t)),
+    }
 }
 
 // A text that may be left out.

@@ -13,4 +13,4 @@ frame-spec =
     (λ c κs. search needs)
     (λ c κs. search needs)
     (λ c. search needs)
-    (λ c. then-all (itemLines (c .before .before .before .before .before .before .before .before .before .before .before .before .args .header .time) (now (c .before .before .before .before .before .before .before .before .before .before .before .before .args .body)) 14) (c .before .before .before .before .before .before .before .before .frame .ensures) (c .before .before .before .before .before .past .ensures) (c .before .before .items .ensures)))
+    (λ c. then-all (itemLines (c .before .before .before .before .before .before .before .before .before .before .before .before .args .microphone) (c .before .before .before .before .before .before .before .before .before .before .before .before .args .header .time) (now (c .before .before .before .before .before .before .before .before .before .before .before .before .args .body)) 14) (c .before .before .before .before .before .before .before .before .frame .ensures) (c .before .before .before .before .before .past .ensures) (c .before .before .items .ensures)))

@@ -9,10 +9,10 @@ use Rattle.listing.proofs.field.items.Statement.{statement}
 use Rattle.listing.proofs.field.items.Tie as tie
 
 abbrev Inv-loop : tie.InvT-loop
-Inv-loop frame header out₀ from at₀ place₀ out at place = Left header frame out₀ from out at place
+Inv-loop frame microphone header out₀ from at₀ place₀ out at place = Left microphone header frame out₀ from out at place
 
 abbrev μ-loop : tie.MeasureT-loop
-μ-loop frame header out₀ from at₀ place₀ out at place = length frame - place
+μ-loop frame microphone header out₀ from at₀ place₀ out at place = length frame - place
 
 pub items-spec : {M : Type 1} → statement M
 items-spec =
@@ -20,7 +20,7 @@ items-spec =
     (tie.spec
     Inv-loop
     μ-loop
-    (λ c. left-first _ _ _ _)
+    (λ c. left-first _ _ _ _ _)
     (λ c κs. search needs)
     (λ c. search needs)
     (λ c. search needs)

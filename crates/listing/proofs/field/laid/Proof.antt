@@ -1,10 +1,10 @@
 use Rattle.listing.proofs.LinesLaws.{wrote-with}
 use borrow.Author.Needs.{needs}
-use Rattle.listing.proofs.field.lines.Statement.{statement}
-use Rattle.listing.proofs.field.lines.Tie as tie
+use Rattle.listing.proofs.field.laid.Statement.{statement}
+use Rattle.listing.proofs.field.laid.Tie as tie
 
-pub lines-spec : {M : Type 1} → statement M
-lines-spec =
+pub laid-spec : {M : Type 1} → statement M
+laid-spec =
     tie.close
     (tie.spec
     (λ c. search needs)
