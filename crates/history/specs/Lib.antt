@@ -5,4 +5,5 @@ pub mod Deed
 pub mod Clock
 pub mod Loss
 pub mod History
+pub mod Tape
 pub mod Again

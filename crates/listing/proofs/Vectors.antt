@@ -1,4 +1,5 @@
 -- Worked lines, computed by antt. Assumes nothing.
+use Prim.Native.Nat.{ℕ}
 use mathlib.Core.Path.{_≡_, refl}
 use mathlib.Core.Bool.{Bool, true, false}
 use mathlib.Core.List.{[], _∷_}
@@ -10,9 +11,10 @@ use Rattle.codec.specs.declared.ident.Ident.the-variants as Ident
 use Rattle.codec.specs.declared.item.State.{State}
 use Rattle.codec.specs.declared.item.State.the-variants as State
 use Rattle.codec.specs.declared.item.Item.{Item}
+use Rattle.tape.specs.Sample.{sampleOf, placedOf}
 use Rattle.text.specs.Put.{letterOf, decimals, decimalOf}
 use Rattle.listing.specs.declared.microphone.Microphone.the-variants as Microphone
-use Rattle.listing.specs.Line.{capitalOf, fixedOf, fieldText, hexText, timeText, busText, idDigits, canText, channelsText, flexrayText, errorText, placeText, shownText, frontText, itemLine, frameLine, startLine, pairLine, refusedLine, skippedLine, endLine, plain, escapeOf, noteLine}
+use Rattle.listing.specs.Line.{capitalOf, fixedOf, fieldText, hexText, timeText, signedText, positionText, busText, idDigits, canText, channelsText, flexrayText, errorText, placeText, shownText, frontText, itemLine, frameLine, startLine, pairLine, refusedLine, skippedLine, endLine, plain, escapeOf, noteLine}
 
 abbrev five : Time
 five = record { sec = 5; nano = 1 }
@@ -55,6 +57,15 @@ error = refl
 bare : itemLine Microphone.Silent five (made (State.Byte 0x80) (Ident.Bare Kind.Can) false) [] ≡ 32 ∷ 32 ∷ 53 ∷ 46 ∷ 48 ∷ 48 ∷ 48 ∷ 48 ∷ 48 ∷ 48 ∷ 48 ∷ 48 ∷ 49 ∷ 32 ∷ 45 ∷ 32 ∷ 67 ∷ 65 ∷ 78 ∷ 32 ∷ 57 ∷ 32 ∷ 45 ∷ 32 ∷ 56 ∷ 48 ∷ 32 ∷ 45 ∷ 32 ∷ 45 ∷ 10 ∷ []
 unfolding itemLine frontText placeText shownText busText decimalOf decimals fixedOf capitalOf fieldText timeText hexText
 bare = refl
+
+-- " -", " 0", " -1", " -2", " 1", " 48000", " -4147200000", " -"
+abbrev at : ℕ → ℕ → Time
+at s n = record { sec = s; nano = n }
+
+positions : positionText Microphone.Silent five ∷ positionText (Microphone.Since (at 5 1)) five ∷ positionText (Microphone.Since (at 5 2)) five ∷ positionText (Microphone.Since (at 5 20835)) five ∷ positionText (Microphone.Since (at 4 999979167)) five ∷ positionText (Microphone.Since (at 4 1)) five ∷ positionText (Microphone.Since (at 86405 1)) five ∷ positionText (Microphone.Since (at 86405 2)) five ∷ []
+    ≡ (32 ∷ 45 ∷ []) ∷ (32 ∷ 48 ∷ []) ∷ (32 ∷ 45 ∷ 49 ∷ []) ∷ (32 ∷ 45 ∷ 50 ∷ []) ∷ (32 ∷ 49 ∷ []) ∷ (32 ∷ 52 ∷ 56 ∷ 48 ∷ 48 ∷ 48 ∷ []) ∷ (32 ∷ 45 ∷ 52 ∷ 49 ∷ 52 ∷ 55 ∷ 50 ∷ 48 ∷ 48 ∷ 48 ∷ 48 ∷ 48 ∷ []) ∷ (32 ∷ 45 ∷ []) ∷ []
+unfolding signedText sampleOf placedOf decimalOf decimals
+positions = refl
 
 -- "frame 255 5.000000001 30"
 frame : frameLine (record { sequence = 255; time = five; length = 30 }) ≡ 102 ∷ 114 ∷ 97 ∷ 109 ∷ 101 ∷ 32 ∷ 50 ∷ 53 ∷ 53 ∷ 32 ∷ 53 ∷ 46 ∷ 48 ∷ 48 ∷ 48 ∷ 48 ∷ 48 ∷ 48 ∷ 48 ∷ 48 ∷ 49 ∷ 32 ∷ 51 ∷ 48 ∷ 10 ∷ []

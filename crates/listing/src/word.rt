@@ -73,10 +73,9 @@ fn sign(out: &mut [u8], at: usize, n: i64) -> usize
     ensures { λ r. ⌜ Short 2 (now (out .entry)) at (signText n) (now (out .exit)) r ⌝ }
 {
     if n < 0 {
-        lay(out, at, b" -")
-    } else {
-        lay(out, at, b" ")
+        return lay(out, at, b" -");
     }
+    lay(out, at, b" ")
 }
 
 fn signed(out: &mut [u8], at: usize, n: i64) -> usize

@@ -94,6 +94,13 @@ module _ {A B : Type 0} (R : A → B → Type 0) where
   both-map P f k [] p = tt
   both-map P f k (y ∷ ys) p = (k y (p .0), both-map P f k ys (p .1))
 
+-- a relation that says less
+pub both-weaken : {A B : Type 0} (R Q : A → B → Type 0) → ((x : A) (y : B) → R x y → Q x y) → (xs : List A) (ys : List B) → Both R xs ys → Both Q xs ys
+both-weaken R Q f [] [] p = tt
+both-weaken R Q f [] (y ∷ ys) p = absurd p
+both-weaken R Q f (x ∷ xs) [] p = absurd p
+both-weaken R Q f (x ∷ xs) (y ∷ ys) p = (f x y (p .0), both-weaken R Q f xs ys (p .1))
+
 -- one member replaced, one more dropped
 pub map-set : {A B : Type 0} (f : A → B) (xs : List A) (k : ℕ) (y : A) → map f (set xs k y) ≡ set (map f xs) k (f y)
 map-set f [] k y = refl
