@@ -61,8 +61,8 @@ pub(crate) fn time(out: &mut [u8], at: usize, t: Time) -> usize
     crate::digit::fixed(out, b, 10, 9, t.nano as u64)
 }
 
-// Its own negative does not fit the least number, so one less is turned round and then the one is added.
-fn size(n: i64) -> u64
+// The least number has no negative in 64 bits, so that of its successor is taken, and one added.
+fn magnitude(n: i64) -> u64
     ensures { λ r. ⌜ r ≡ natAbs n ⌝ }
 {
     if n < 0 { (-1 - n) as u64 + 1 } else { n as u64 }
@@ -83,7 +83,7 @@ fn signed(out: &mut [u8], at: usize, n: i64) -> usize
     ensures { λ r. ⌜ Short 22 (now (out .entry)) at (signedText n) (now (out .exit)) r ⌝ }
 {
     let start = sign(out, at, n);
-    number(out, start, size(n))
+    number(out, start, magnitude(n))
 }
 
 fn placed(out: &mut [u8], at: usize, p: Placed) -> usize

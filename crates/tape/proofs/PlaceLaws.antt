@@ -5,7 +5,7 @@ use mathlib.Core.Bool.{Bool, true, false}
 use mathlib.Core.Logic.{_⊎_, inl, inr}
 use native.Mathlib.Omega.{arith}
 use lib.Dec.{leb, ltb}
-use lib.IntN.{ℤ, pos, negsuc, sucℤ, natAbs, _-ℤ_}
+use lib.IntN.{ℤ, pos, negsuc, natAbs, _-ℤ_}
 use borrow.Author.Tests.{lt-ltb, le-ltb, le-leb, lt-leb, ltb-true, ltb-false, leb-true, leb-false}
 use Rattle.codec.specs.Time.{ns}
 use Rattle.codec.specs.declared.time.Time.{Time}
@@ -13,11 +13,7 @@ use Rattle.codec.proofs.Opened.{never}
 use Rattle.tape.specs.Sample.{apartOf, sampleOf, Plays, SameOrNext, beginsOf, withinDay, placedOf, positionOf}
 use Rattle.tape.specs.declared.sample.Placed.{Placed}
 use Rattle.tape.specs.declared.sample.Placed.the-variants as Placed
-use Rattle.tape.proofs.SampleLaws.{sample-after, sample-before, plays, begins}
-
-abbrev number : Placed → ℤ
-number (Placed.Sample p) = p
-number (Placed.Refused answer) = pos answer
+use Rattle.tape.proofs.SampleLaws.{sample-after, sample-before, plays, the-one, begins}
 
 -- a difference, at each sign
 pub apart-after : (s t : ℕ) → s ≤ t → pos t -ℤ pos s ≡ pos (t - s)
@@ -68,19 +64,32 @@ pub far-before : (s t : ℕ) → t + 86400000000000 < s → Placed.Refused 61 �
 unfolding placedOf
 far-before s t h = rw (apart-before s t (omega arith)) (simp (lt-leb (suc (s - suc t)) 86400000000000 (omega arith)))
 
--- what is told: the one sample that plays, at most 24 hours away
-pub tells : (start time : Time) (p : ℤ) → positionOf start time ≡ Placed.Sample p → (p ≡ sampleOf (apartOf start time)) × (natAbs (apartOf start time) ≤ 86400000000000)
-unfolding placedOf
-tells start time p h = go (withinDay (apartOf start time)) refl
-  where
-    go : (b : Bool) → withinDay (apartOf start time) ≡ b → (p ≡ sampleOf (apartOf start time)) × (natAbs (apartOf start time) ≤ 86400000000000)
-    go true e =
-        let q : _≡_ {A = Placed} (Placed.Sample (sampleOf (apartOf start time))) (Placed.Sample p) = cc in
-        (sym (ap number q), leb-true (natAbs (apartOf start time)) 86400000000000 e)
-    go false e = never (cc)
+-- the numbers that are answered, and no others: the one sample that plays, where it is at most 24 hours away
+abbrev number : Placed → ℤ
+number (Placed.Sample p) = p
+number (Placed.Refused answer) = pos answer
 
-pub playing : (start time : Time) (p : ℤ) → positionOf start time ≡ Placed.Sample p → Plays p (apartOf start time)
-playing start time p h = rw (tells start time p h .0) (plays (apartOf start time))
+module _ (start time : Time) where
+  pub tells : (p : ℤ) → positionOf start time ≡ Placed.Sample p → (p ≡ sampleOf (apartOf start time)) × (natAbs (apartOf start time) ≤ 86400000000000)
+  unfolding placedOf
+  tells p h = go (withinDay (apartOf start time)) refl
+    where
+      go : (b : Bool) → withinDay (apartOf start time) ≡ b → (p ≡ sampleOf (apartOf start time)) × (natAbs (apartOf start time) ≤ 86400000000000)
+      go true e =
+          let q : _≡_ {A = Placed} (Placed.Sample (sampleOf (apartOf start time))) (Placed.Sample p) = cc in
+          (sym (ap number q), leb-true (natAbs (apartOf start time)) 86400000000000 e)
+      go false e = never (cc)
+
+  pub playing : (p : ℤ) → positionOf start time ≡ Placed.Sample p → Plays p (apartOf start time)
+  playing p h = rw (tells p h .0) (plays (apartOf start time))
+
+  pub answers : (p : ℤ) → Plays p (apartOf start time) → natAbs (apartOf start time) ≤ 86400000000000 → positionOf start time ≡ Placed.Sample p
+  unfolding placedOf
+  answers p h k = rw (le-leb (natAbs (apartOf start time)) 86400000000000 k) (ap Placed.Sample (sym (the-one p (apartOf start time) h)))
+
+  pub refuses : 86400000000000 < natAbs (apartOf start time) → positionOf start time ≡ Placed.Refused 61
+  unfolding placedOf
+  refuses k = rw (lt-leb (natAbs (apartOf start time)) 86400000000000 k)
 
 -- a time at which a sample begins
 pub own-time : (start time : Time) (n : ℤ) → apartOf start time ≡ beginsOf n → natAbs (beginsOf n) ≤ 86400000000000 → positionOf start time ≡ Placed.Sample n

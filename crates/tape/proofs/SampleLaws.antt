@@ -1,10 +1,8 @@
 -- What the number of a sample says of the time. Assumes nothing.
 use Prim.Native.Nat.{ℕ, zero, suc, _+_, _-_, _*_, _/_, _≤_, _<_}
-use mathlib.Core.Path.{_≡_, refl, sym, _∙_, ap}
-use mathlib.Core.Bool.{Bool, true, false}
-use mathlib.Core.Logic.{_⊎_, inl, inr}
+use mathlib.Core.Path.{_≡_, refl, _∙_, ap}
 use native.Mathlib.Omega.{arith}
-use lib.Dec.{T, leb→le, le→leb, ltb→lt, lt→ltb}
+use lib.Dec.{leb→le, le→leb, ltb→lt, lt→ltb}
 use lib.IntN.{ℤ, pos, negsuc, sucℤ, predℤ, negℤ, _-ℤ_, _*ℤ_}
 use lib.Signed.{shrZ, _≤ℤ_, _<ℤ_}
 use mir.Syntax.{w64}
@@ -37,8 +35,8 @@ pub minus-one : (k : ℕ) → negsuc zero -ℤ pos k ≡ negsuc k
 minus-one zero = refl
 minus-one (suc k) = let e : suc (zero + k) ≡ suc k = omega arith in ap negsuc e
 
-pub halved : (n : ℕ) → n < 9223372036854775808 → toZ w64 n ≡ pos n
-halved n h = toZ-pos w64 h
+pub as-signed : (n : ℕ) → n < 9223372036854775808 → toZ w64 n ≡ pos n
+as-signed n h = toZ-pos w64 h
 
 -- within 24 hours its number fits 64 bits
 pub stored-after : (n : ℕ) → n ≤ 86400000000000 → toZ w64 (ofZ w64 (sampleOf (pos n))) ≡ sampleOf (pos n)
@@ -131,7 +129,7 @@ unfolding beginsOf
 begins-zero = refl
 
 pub begins : (n : ℤ) → sampleOf (beginsOf n) ≡ n
-begins (pos zero) = rw (begins-zero) (sample-after zero)
+begins (pos zero) = rw begins-zero (sample-after zero)
 begins (pos (suc a)) =
     let e : 6 * suc ((125000 * a + 124999) / 6) / 125000 ≡ suc a = omega arith in
     rw (begins-after a, sample-after (suc ((125000 * a + 124999) / 6))) (ap pos e)
@@ -141,7 +139,7 @@ begins (negsuc a) =
 
 -- and a nanosecond earlier lies on the one before
 pub begins-there : (n : ℤ) → sampleOf (predℤ (beginsOf n)) ≡ predℤ n
-begins-there (pos zero) = rw (begins-zero) (sample-before zero)
+begins-there (pos zero) = rw begins-zero (sample-before zero)
 begins-there (pos (suc a)) =
     let e : 6 * ((125000 * a + 124999) / 6) / 125000 ≡ a = omega arith in
     rw (begins-after a, sample-after ((125000 * a + 124999) / 6)) (ap pos e)

@@ -16,4 +16,4 @@ signed-spec =
     (λ c κs. search needs)
     (λ c κs. search needs)
     (λ c. search needs)
-    (λ c. short-as (short-then (c .before .before .before .before .before .before .before .sign .ensures) (c .before .before .number .ensures)) (rw (c .before .before .before .size .ensures, toZ-ofZ (c .before .before .before .before .before .before .before .before .before .before .fits .n)) refl) (omega arith)))
+    (λ c. short-as (short-then (c .before .before .before .before .before .before .before .sign .ensures) (c .before .before .number .ensures)) (rw (c .before .before .before .magnitude .ensures, toZ-ofZ (c .before .before .before .before .before .before .before .before .before .before .fits .n)) refl) (omega arith)))

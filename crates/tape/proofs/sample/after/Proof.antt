@@ -3,7 +3,7 @@ use Prim.Native.Nat.{_*_, _/_}
 use mathlib.Core.Path.{_≡_, sym, _∙_, ap}
 use native.Mathlib.Omega.{arith}
 use lib.IntN.{pos}
-use Rattle.tape.proofs.SampleLaws.{sample-after, halved}
+use Rattle.tape.proofs.SampleLaws.{sample-after, as-signed}
 use Rattle.tape.proofs.sample.after.Statement.{statement}
 use Rattle.tape.proofs.sample.after.Tie as tie
 
@@ -12,7 +12,7 @@ returns c =
     let n = c .args .n in
     let p = c .pre in
     let e : n * 6 / 125000 ≡ 6 * n / 125000 = omega arith in
-    halved (n * 6 / 125000) (omega arith) ∙ ap pos e ∙ sym (sample-after n)
+    as-signed (n * 6 / 125000) (omega arith) ∙ ap pos e ∙ sym (sample-after n)
 
 pub after-spec : {M : Type 1} → statement M
 after-spec = tie.close (tie.spec (λ c. search needs) (λ c. search needs) returns)

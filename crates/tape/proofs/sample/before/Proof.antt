@@ -6,7 +6,7 @@ use lib.IntN.{ℤ, negsuc, _-ℤ_}
 use mir.Syntax.{w64}
 use mir.Val.{SFits, toZ}
 use mir.Facts.{toZ-ofZ}
-use Rattle.tape.proofs.SampleLaws.{sample-before, minus-one, halved}
+use Rattle.tape.proofs.SampleLaws.{sample-before, minus-one, as-signed}
 use Rattle.tape.proofs.sample.before.Statement.{statement}
 use Rattle.tape.proofs.sample.before.Tie as tie
 
@@ -14,7 +14,7 @@ use Rattle.tape.proofs.sample.before.Tie as tie
 less : (c : tie.Start) → negsuc 0 -ℤ toZ w64 ((c .args .n * 6 + 5) / 125000) ≡ negsuc ((c .args .n * 6 + 5) / 125000)
 less c =
     let p = c .pre in
-    ap (λ (z : ℤ). negsuc 0 -ℤ z) (halved ((c .args .n * 6 + 5) / 125000) (omega arith)) ∙ minus-one ((c .args .n * 6 + 5) / 125000)
+    ap (λ (z : ℤ). negsuc 0 -ℤ z) (as-signed ((c .args .n * 6 + 5) / 125000) (omega arith)) ∙ minus-one ((c .args .n * 6 + 5) / 125000)
 
 sub-result : tie.Need-sub-result
 sub-result c = let p = c .pre in rw (less c) (record { sfits = omega arith })

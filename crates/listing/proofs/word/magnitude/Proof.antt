@@ -8,15 +8,15 @@ use mir.Syntax.{w64}
 use mir.Val.{Fits, SFits, toZ, ofZ}
 use Rattle.listing.proofs.SignLaws.{when-below, when-not, stored, turn}
 use borrow.Author.Needs.{needs}
-use Rattle.listing.proofs.word.size.Statement.{statement}
-use Rattle.listing.proofs.word.size.Tie as tie
+use Rattle.listing.proofs.word.magnitude.Statement.{statement}
+use Rattle.listing.proofs.word.magnitude.Tie as tie
 
 -- what the machine reads back of the number one less, turned round
 abbrev back : ℤ → ℤ
 back z = toZ w64 (ofZ w64 (negsuc 0 -ℤ toZ w64 (ofZ w64 z)))
 
-pub size-spec : {M : Type 1} → statement M
-size-spec =
+pub magnitude-spec : {M : Type 1} → statement M
+magnitude-spec =
     tie.close
     (tie.spec
     (λ c. when-below (λ z. SFits w64 (negsuc 0 -ℤ toZ w64 (ofZ w64 z))) (c .before .fits .n) (c .if1 .taken) (λ a h. rw (turn a h) (record { sfits = h })))
