@@ -4,9 +4,9 @@ use libc::STDERR_FILENO;
 use libc::STDIN_FILENO;
 use libc::STDOUT_FILENO;
 use listing::Cursor;
-use listing::Microphone;
 use recording::pieces::Place;
 use recording::pieces::Seen;
+use tape::Microphone;
 
 // A program cannot end with a status of its own. What started it may listen here, and hears of a failure.
 const STATUS: i32 = 3;

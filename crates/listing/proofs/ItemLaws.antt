@@ -7,7 +7,7 @@ use lib.ListN.{length, length-append}
 use Rattle.codec.specs.Choice.{pick}
 use Rattle.codec.specs.declared.time.Time.{Time}
 use Rattle.codec.specs.declared.item.Item.{Item}
-use Rattle.listing.specs.declared.microphone.Microphone.{Microphone}
+use Rattle.tape.specs.declared.microphone.Microphone.{Microphone}
 use Rattle.listing.specs.Line.{fixedOf, spread, bytesText, frontText, itemLine}
 use Rattle.listing.proofs.SpreadLaws.{pairs-length}
 

@@ -7,4 +7,4 @@ pub mod Unique
 pub mod Vectors
 pub mod LinesLaws
 pub mod RoomLaws
-pub mod StartLaws
+pub mod FileLaws

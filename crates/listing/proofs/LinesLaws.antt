@@ -19,7 +19,7 @@ use Rattle.codec.specs.declared.field.ItemRead.{ItemRead}
 use Rattle.codec.specs.declared.field.ItemRead.the-variants as ItemRead
 use Rattle.reader.specs.Frame.{along, itemsOf}
 use Rattle.reader.proofs.AlongLaws.{items-item}
-use Rattle.listing.specs.declared.microphone.Microphone.{Microphone}
+use Rattle.tape.specs.declared.microphone.Microphone.{Microphone}
 use Rattle.listing.specs.Line.{itemLine}
 use Rattle.listing.specs.Field.{Text, itemLines, with, withAll, pastOf}
 

@@ -42,8 +42,8 @@ use Rattle.listing.proofs.FixedLaws.{fixed-length}
 use Rattle.listing.proofs.SpreadLaws.{pairs-length}
 use Rattle.listing.proofs.EscapeLaws.{note-length}
 use Rattle.listing.proofs.LinesLaws.{lines-past, lines-bad, lines-item}
-use Rattle.listing.specs.declared.microphone.Microphone.{Microphone}
-use Rattle.listing.specs.declared.microphone.Microphone.the-variants as Microphone
+use Rattle.tape.specs.declared.microphone.Microphone.{Microphone}
+use Rattle.tape.specs.declared.microphone.Microphone.the-variants as Microphone
 use Rattle.listing.specs.Line.{fieldText, hexText, timeText, signText, signedText, placedText, positionText, kindText, isFd, busText, idDigits, canText, channelsText, flexrayText, errorText, identText, stateText, loadText, bytesText, placeText, shownText, frontText, itemLine, frameLine, startLine, pairLine, refusedLine, skippedLine, noteLine, plain, escapeOf, spread}
 use Rattle.listing.specs.Field.{Text, itemLines, foundLines, fieldLines, with, withAll, textOf, wholeOf}
 

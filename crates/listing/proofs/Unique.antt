@@ -11,7 +11,7 @@ use Rattle.listing.proofs.line.skipped.Reads as skipped
 use Rattle.listing.proofs.line.end.Reads as end
 use Rattle.listing.proofs.field.lines.Reads as lines
 use Rattle.listing.specs.declared.field.Cursor.{Cursor}
-use Rattle.listing.specs.declared.microphone.Microphone.{Microphone}
+use Rattle.tape.specs.declared.microphone.Microphone.{Microphone}
 use Rattle.listing.specs.Field.{Text}
 
 pub frame-unique : (κs : _) (a : _) (r r′ : _) (x x′ : _) → frame.Post κs a r x → frame.Post κs a r′ x′ → (r ≡ r′) × (now (x .0) ≡ now (x′ .0))

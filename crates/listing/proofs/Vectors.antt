@@ -13,7 +13,7 @@ use Rattle.codec.specs.declared.item.State.the-variants as State
 use Rattle.codec.specs.declared.item.Item.{Item}
 use Rattle.tape.specs.Sample.{sampleOf, placedOf}
 use Rattle.text.specs.Put.{letterOf, decimals, decimalOf}
-use Rattle.listing.specs.declared.microphone.Microphone.the-variants as Microphone
+use Rattle.tape.specs.declared.microphone.Microphone.the-variants as Microphone
 use Rattle.listing.specs.Line.{capitalOf, fixedOf, fieldText, hexText, timeText, signedText, positionText, busText, idDigits, canText, channelsText, flexrayText, errorText, placeText, shownText, frontText, itemLine, frameLine, startLine, pairLine, refusedLine, skippedLine, endLine, plain, escapeOf, noteLine}
 
 abbrev five : Time

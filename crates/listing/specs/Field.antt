@@ -13,7 +13,7 @@ use Rattle.reader.specs.Frame.{itemsOf}
 use Rattle.recording.specs.declared.field.Found.{Found}
 use Rattle.recording.specs.declared.field.Found.the-variants as Found
 use Rattle.recording.specs.declared.field.Field.{Field}
-use Rattle.listing.specs.declared.microphone.Microphone.{Microphone}
+use Rattle.tape.specs.declared.microphone.Microphone.{Microphone}
 use Rattle.listing.specs.Line.{frameLine, itemLine, noteLine, startLine, refusedLine, skippedLine}
 
 -- an item of a frame with this header time

@@ -16,14 +16,12 @@ use Rattle.codec.specs.declared.ident.Ident.the-variants as Ident
 use Rattle.codec.specs.declared.item.State.{State}
 use Rattle.codec.specs.declared.item.State.the-variants as State
 use Rattle.codec.specs.declared.item.Item.{Item}
-use Rattle.recording.specs.declared.field.Found.{Found}
-use Rattle.recording.specs.declared.field.Found.the-variants as Found
 use Rattle.tape.specs.Sample.{positionOf}
 use Rattle.tape.specs.declared.sample.Placed.{Placed}
 use Rattle.tape.specs.declared.sample.Placed.the-variants as Placed
 use Rattle.text.specs.Put.{decimalOf, hexes}
-use Rattle.listing.specs.declared.microphone.Microphone.{Microphone}
-use Rattle.listing.specs.declared.microphone.Microphone.the-variants as Microphone
+use Rattle.tape.specs.declared.microphone.Microphone.{Microphone}
+use Rattle.tape.specs.declared.microphone.Microphone.the-variants as Microphone
 
 -- '0' to '9' and 'A' to 'F'
 unfoldable pub capitalOf : ℕ → ℕ
@@ -71,14 +69,6 @@ placedText (Placed.Refused answer) = dash
 abbrev pub positionText : Microphone → Time → List ℕ
 positionText Microphone.Silent t = dash
 positionText (Microphone.Since start) t = placedText (positionOf start t)
-
--- the start in force after a field: a good one takes the place of the earlier one, and nothing else does
-abbrev pub afterOf : Microphone → Found → Microphone
-afterOf m (Found.Frame h) = m
-afterOf m Found.Note = m
-afterOf m (Found.Start t) = Microphone.Since t
-afterOf m (Found.Refused answer) = m
-afterOf m Found.Skipped = m
 
 -- "CAN", "LIN", "FLEXRAY"
 abbrev pub kindText : Kind → List ℕ

@@ -1,15 +1,16 @@
 // The lines of one field of a recording. An output that is too short for a line is left as it was and the
 // line left out; who lends 65,536 bytes past `at` loses none (proofs/RoomLaws.antt).
-use crate::microphone::Microphone;
 use codec::field::ItemRead;
 use codec::header::Header;
 use codec::number::Put;
 use codec::time::Time;
 use recording::field::Field;
 use recording::field::Found;
+use tape::Microphone;
 ghost use mathlib.Core.Path.{_≡_};
 ghost use mathlib.Core.List.{_∷_};
-ghost use Rattle.listing.specs.Line.{afterOf, frameLine};
+ghost use Rattle.tape.specs.Start.{afterOf};
+ghost use Rattle.listing.specs.Line.{frameLine};
 ghost use Rattle.listing.specs.Field.{itemLines, fieldLines, withAll, pastOf};
 
 // Where writing goes on, and the start from which positions count.
@@ -89,6 +90,6 @@ pub fn lines(out: &mut [u8], cursor: Cursor, field: Field, buffer: &[u8]) -> Cur
     let at = laid(out, cursor.at, microphone, field, buffer);
     Cursor {
         at,
-        microphone: crate::microphone::after(microphone, found),
+        microphone: tape::after(microphone, found),
     }
 }

@@ -3,7 +3,6 @@ mod digit;
 mod escape;
 mod field;
 mod line;
-mod microphone;
 mod word;
 
 pub use escape::note;
@@ -15,4 +14,3 @@ pub use line::item;
 pub use line::refused;
 pub use line::skipped;
 pub use line::start;
-pub use microphone::Microphone;

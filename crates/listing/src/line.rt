@@ -1,10 +1,10 @@
 // Lines of a bounded length, laid into a local text first, so that an output without room for the whole
 // of a line is left as it was; and the line of an item, whose bytes may be many.
-use crate::microphone::Microphone;
 use codec::header::Header;
 use codec::item::Item;
 use codec::number::Put;
 use codec::time::Time;
+use tape::Microphone;
 ghost use mathlib.Core.Path.{_≡_};
 ghost use mathlib.Core.Bool.{true};
 ghost use mathlib.Core.List.{_∷_, [], _++_};

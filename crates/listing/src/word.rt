@@ -1,10 +1,10 @@
 // The words of a line, each after a space. They are laid where the caller has seen that there is room.
-use crate::microphone::Microphone;
 use codec::ident::Ident;
 use codec::ident::Kind;
 use codec::item::State;
 use codec::number::Put;
 use codec::time::Time;
+use tape::Microphone;
 use tape::Placed;
 ghost use mathlib.Core.Path.{_≡_};
 ghost use mathlib.Core.List.{[]};

@@ -1,4 +1,5 @@
 pub mod SampleLaws
 pub mod PlaceLaws
+pub mod StartLaws
 pub mod Unique
 pub mod Vectors

@@ -47,54 +47,46 @@ pub from-time : (start time : Time) → time .sec ≤ start .sec
     → placedOf (pos (time .nano) -ℤ pos ((start .sec - time .sec) * 1000000000 + start .nano)) ≡ positionOf start time
 from-time start time h = ap placedOf (shift ((start .sec - time .sec) * 1000000000 + start .nano) (time .nano) (ns start) (ns time) (omega arith))
 
--- the two ways to lie within 24 hours, and the two ways not to
-pub near-after : (s t : ℕ) → s ≤ t → t - s ≤ 86400000000000 → Placed.Sample (sampleOf (pos (t - s))) ≡ placedOf (pos t -ℤ pos s)
+-- what is answered: the sample within 24 hours, and else 61
+pub near : (d : ℤ) → natAbs d ≤ 86400000000000 → placedOf d ≡ Placed.Sample (sampleOf d)
 unfolding placedOf
-near-after s t h k = rw (apart-after s t h) (simp (le-leb (t - s) 86400000000000 k))
+near d h = rw (le-leb (natAbs d) 86400000000000 h)
 
-pub near-before : (s t : ℕ) → t < s → s - suc t < 86400000000000 → Placed.Sample (sampleOf (negsuc (s - suc t))) ≡ placedOf (pos t -ℤ pos s)
+pub far : (d : ℤ) → 86400000000000 < natAbs d → placedOf d ≡ Placed.Refused 61
 unfolding placedOf
-near-before s t h k = rw (apart-before s t h) (simp (le-leb (suc (s - suc t)) 86400000000000 k))
+far d h = rw (lt-leb (natAbs d) 86400000000000 h)
 
-pub far-after : (s t : ℕ) → s + 86400000000000 < t → Placed.Refused 61 ≡ placedOf (pos t -ℤ pos s)
-unfolding placedOf
-far-after s t h = rw (apart-after s t (omega arith)) (simp (lt-leb (t - s) 86400000000000 (omega arith)))
+-- how far apart they are
+pub size-after : (s t : ℕ) → s ≤ t → natAbs (pos t -ℤ pos s) ≡ t - s
+size-after s t h = rw (apart-after s t h)
 
-pub far-before : (s t : ℕ) → t + 86400000000000 < s → Placed.Refused 61 ≡ placedOf (pos t -ℤ pos s)
-unfolding placedOf
-far-before s t h = rw (apart-before s t (omega arith)) (simp (lt-leb (suc (s - suc t)) 86400000000000 (omega arith)))
+pub size-before : (s t : ℕ) → t < s → natAbs (pos t -ℤ pos s) ≡ s - t
+size-before s t h = rw (apart-before s t h) (omega arith)
 
--- the numbers that are answered, and no others: the one sample that plays, where it is at most 24 hours away
+-- and nothing else: what is told is the one sample that plays
 abbrev number : Placed → ℤ
 number (Placed.Sample p) = p
 number (Placed.Refused answer) = pos answer
 
 module _ (start time : Time) where
   pub tells : (p : ℤ) → positionOf start time ≡ Placed.Sample p → (p ≡ sampleOf (apartOf start time)) × (natAbs (apartOf start time) ≤ 86400000000000)
-  unfolding placedOf
   tells p h = go (withinDay (apartOf start time)) refl
     where
       go : (b : Bool) → withinDay (apartOf start time) ≡ b → (p ≡ sampleOf (apartOf start time)) × (natAbs (apartOf start time) ≤ 86400000000000)
       go true e =
-          let q : _≡_ {A = Placed} (Placed.Sample (sampleOf (apartOf start time))) (Placed.Sample p) = cc in
-          (sym (ap number q), leb-true (natAbs (apartOf start time)) 86400000000000 e)
-      go false e = never (cc)
+          let k = leb-true (natAbs (apartOf start time)) 86400000000000 e in
+          (ap number (sym h ∙ near (apartOf start time) k), k)
+      go false e = never (cc (h, far (apartOf start time) (leb-false (natAbs (apartOf start time)) 86400000000000 e)))
 
   pub playing : (p : ℤ) → positionOf start time ≡ Placed.Sample p → Plays p (apartOf start time)
   playing p h = rw (tells p h .0) (plays (apartOf start time))
 
   pub answers : (p : ℤ) → Plays p (apartOf start time) → natAbs (apartOf start time) ≤ 86400000000000 → positionOf start time ≡ Placed.Sample p
-  unfolding placedOf
-  answers p h k = rw (le-leb (natAbs (apartOf start time)) 86400000000000 k) (ap Placed.Sample (sym (the-one p (apartOf start time) h)))
-
-  pub refuses : 86400000000000 < natAbs (apartOf start time) → positionOf start time ≡ Placed.Refused 61
-  unfolding placedOf
-  refuses k = rw (lt-leb (natAbs (apartOf start time)) 86400000000000 k)
+  answers p h k = near (apartOf start time) k ∙ ap Placed.Sample (sym (the-one p (apartOf start time) h))
 
 -- a time at which a sample begins
 pub own-time : (start time : Time) (n : ℤ) → apartOf start time ≡ beginsOf n → natAbs (beginsOf n) ≤ 86400000000000 → positionOf start time ≡ Placed.Sample n
-unfolding placedOf
-own-time start time n e h = rw (e, le-leb (natAbs (beginsOf n)) 86400000000000 h) (ap Placed.Sample (begins n))
+own-time start time n e h = rw e (near (beginsOf n) h ∙ ap Placed.Sample (begins n))
 
 -- a number and the same or the next
 same-or-suc : (p q : ℕ) → p ≤ q → q ≤ suc p → (q ≡ p) ⊎ (q ≡ suc p)

@@ -3,7 +3,7 @@ use Prim.Native.Nat.{ℕ, zero, suc, _+_, _-_, _*_, _/_, _≤_, _<_}
 use mathlib.Core.Path.{_≡_, refl, _∙_, ap}
 use native.Mathlib.Omega.{arith}
 use lib.Dec.{leb→le, le→leb, ltb→lt, lt→ltb}
-use lib.IntN.{ℤ, pos, negsuc, sucℤ, predℤ, negℤ, _-ℤ_, _*ℤ_}
+use lib.IntN.{ℤ, pos, negsuc, sucℤ, predℤ, negℤ, natAbs, _-ℤ_, _*ℤ_}
 use lib.Signed.{shrZ, _≤ℤ_, _<ℤ_}
 use mir.Syntax.{w64}
 use mir.Val.{toZ, ofZ}
@@ -39,11 +39,9 @@ pub as-signed : (n : ℕ) → n < 9223372036854775808 → toZ w64 n ≡ pos n
 as-signed n h = toZ-pos w64 h
 
 -- within 24 hours its number fits 64 bits
-pub stored-after : (n : ℕ) → n ≤ 86400000000000 → toZ w64 (ofZ w64 (sampleOf (pos n))) ≡ sampleOf (pos n)
-stored-after n h = toZ-ofZ (rw (sample-after n) (record { sfits = omega arith }))
-
-pub stored-before : (n : ℕ) → n < 86400000000000 → toZ w64 (ofZ w64 (sampleOf (negsuc n))) ≡ sampleOf (negsuc n)
-stored-before n h = toZ-ofZ (rw (sample-before n) (record { sfits = omega arith }))
+pub stored : (d : ℤ) → natAbs d ≤ 86400000000000 → toZ w64 (ofZ w64 (sampleOf d)) ≡ sampleOf d
+stored (pos a) h = toZ-ofZ (rw (sample-after a) (record { sfits = omega arith }))
+stored (negsuc a) h = toZ-ofZ (rw (sample-before a) (record { sfits = omega arith }))
 
 -- the orders of two numbers of one sign, from those of their sizes
 le-after : {a b : ℕ} → a ≤ b → pos a ≤ℤ pos b

@@ -1,7 +1,7 @@
 use mathlib.Core.Path.{_≡_, sym, ap}
 use native.Mathlib.Omega.{arith}
 use Rattle.text.proofs.ShortLaws.{short-as}
-use Rattle.listing.specs.declared.microphone.Microphone.{Microphone}
+use Rattle.tape.specs.declared.microphone.Microphone.{Microphone}
 use Rattle.listing.specs.Line.{positionText}
 use borrow.Author.Needs.{needs}
 use Rattle.listing.proofs.word.position.Statement.{statement}

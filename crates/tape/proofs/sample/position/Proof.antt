@@ -1,21 +1,24 @@
 use borrow.Author.Needs.{needs}
-use mathlib.Core.Path.{_∙_}
+use Prim.Native.Nat.{_<_}
+use mathlib.Core.Path.{_≡_, sym, _∙_}
 use native.Mathlib.Omega.{arith}
+use lib.IntN.{natAbs}
 use Rattle.codec.specs.Time.{ns}
-use Rattle.tape.proofs.PlaceLaws.{from-start, from-time, far-after, far-before}
+use Rattle.tape.specs.Sample.{apartOf}
+use Rattle.tape.proofs.PlaceLaws.{from-start, from-time, far, size-after, size-before}
 use Rattle.tape.proofs.sample.position.Statement.{statement}
 use Rattle.tape.proofs.sample.position.Tie as tie
 
 pub position-spec : {M : Type 1} → statement M
 position-spec = tie.close (tie.spec
-    (λ c. far-after (ns (c .before .before .args .start)) (ns (c .before .before .args .time)) (omega arith))
+    (λ c. let a = c .before .before .args in let z = size-after (ns (a .start)) (ns (a .time)) (omega arith) in sym (far (apartOf (a .start) (a .time)) (rw z (omega arith))))
     (λ c. search needs)
     (λ c. search needs)
     (λ c. search needs)
     (λ c. search needs)
     (λ c κs. search needs)
     (λ c. search needs)
-    (λ c. far-before (ns (c .before .before .args .start)) (ns (c .before .before .args .time)) (omega arith))
+    (λ c. let a = c .before .before .args in let z = size-before (ns (a .start)) (ns (a .time)) (omega arith) in sym (far (apartOf (a .start) (a .time)) (rw z (omega arith))))
     (λ c. search needs)
     (λ c. search needs)
     (λ c. search needs)

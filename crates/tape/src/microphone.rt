@@ -2,7 +2,7 @@
 use codec::time::Time;
 use recording::field::Found;
 ghost use mathlib.Core.Path.{_≡_};
-ghost use Rattle.listing.specs.Line.{afterOf};
+ghost use Rattle.tape.specs.Start.{afterOf};
 
 // Silent before the first good start.
 pub enum Microphone {
@@ -11,7 +11,7 @@ pub enum Microphone {
 }
 
 // A refused start leaves the earlier one in force.
-pub(crate) fn after(microphone: Microphone, found: Found) -> Microphone
+pub fn after(microphone: Microphone, found: Found) -> Microphone
     ensures { λ r. ⌜ r ≡ afterOf microphone found ⌝ }
 {
     match found {

@@ -1,8 +1,8 @@
 use mathlib.Core.Path.{sym, ap}
-use Rattle.listing.specs.Line.{afterOf}
+use Rattle.tape.specs.Start.{afterOf}
 use borrow.Author.Needs.{needs}
-use Rattle.listing.proofs.microphone.after.Statement.{statement}
-use Rattle.listing.proofs.microphone.after.Tie as tie
+use Rattle.tape.proofs.microphone.after.Statement.{statement}
+use Rattle.tape.proofs.microphone.after.Tie as tie
 
 pub after-spec : {M : Type 1} → statement M
 after-spec =

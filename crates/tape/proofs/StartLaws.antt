@@ -1,17 +1,15 @@
 -- Which start is in force: the latest good one before a field. Assumes nothing.
-use mathlib.Core.Path.{_≡_, refl, sym, _∙_, ap, subst}
-use mathlib.Core.Bool.{Bool, true, false}
-use mathlib.Core.List.{List, [], _∷_, _++_, append-assoc}
+use mathlib.Core.Path.{_≡_, refl, _∙_, ap, subst}
+use mathlib.Core.Bool.{true, false}
+use mathlib.Core.List.{List, [], _∷_, _++_}
 use lib.Dec.{T}
 use Rattle.codec.specs.declared.time.Time.{Time}
 use Rattle.recording.specs.File.{Finding}
 use Rattle.recording.specs.declared.field.Found.{Found}
 use Rattle.recording.specs.declared.field.Found.the-variants as Found
-use Rattle.listing.specs.declared.microphone.Microphone.{Microphone}
-use Rattle.listing.specs.declared.microphone.Microphone.the-variants as Microphone
-use Rattle.listing.specs.Line.{afterOf}
-use Rattle.listing.specs.Field.{foundLines}
-use Rattle.listing.specs.File.{afterAll, linesOf, starts, NoStart}
+use Rattle.tape.specs.declared.microphone.Microphone.{Microphone}
+use Rattle.tape.specs.declared.microphone.Microphone.the-variants as Microphone
+use Rattle.tape.specs.Start.{afterOf, afterAll, starts, NoStart}
 
 -- nothing but a good start changes it
 pub others-keep : (m : Microphone) (x : Found) → starts x ≡ false → afterOf m x ≡ m
@@ -30,10 +28,3 @@ pub latest : (m : Microphone) (fs gs : List Finding) (f : Finding) (t : Time) �
     → afterAll m (fs ++ (f ∷ gs)) ≡ Microphone.Since t
 latest m [] gs f t e h = rw e (none-keeps (Microphone.Since t) gs h)
 latest m (x ∷ fs) gs f t e h = latest (afterOf m (x .found)) fs gs f t e h
-
--- so the lines of a field come from its own findings and that start alone
-pub lines-split : (m : Microphone) (fs gs : List Finding) → linesOf m (fs ++ gs) ≡ linesOf m fs ++ linesOf (afterAll m fs) gs
-lines-split m [] gs = refl
-lines-split m (f ∷ fs) gs =
-    ap (λ xs. foundLines m (f .tag) (f .size) (f .found) (f .body) ++ xs) (lines-split (afterOf m (f .found)) fs gs)
-    ∙ sym (append-assoc (foundLines m (f .tag) (f .size) (f .found) (f .body)) (linesOf (afterOf m (f .found)) fs) (linesOf (afterAll (afterOf m (f .found)) fs) gs))
