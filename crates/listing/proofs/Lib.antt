@@ -7,4 +7,3 @@ pub mod Unique
 pub mod Vectors
 pub mod LinesLaws
 pub mod RoomLaws
-pub mod FileLaws

@@ -11,7 +11,7 @@ pub enum Placed {
     Refused(u8),
 }
 
-fn after(n: u64) -> i64
+fn later(n: u64) -> i64
     requires { ⌜ n ≤ 86400000000000 ⌝ }
     ensures { λ r. ⌜ r ≡ sampleOf (pos n) ⌝ }
 {
@@ -19,7 +19,7 @@ fn after(n: u64) -> i64
 }
 
 // n + 1 nanoseconds before the start, where sample -1 is the first to be met.
-fn before(n: u64) -> i64
+fn earlier(n: u64) -> i64
     requires { ⌜ n < 86400000000000 ⌝ }
     ensures { λ r. ⌜ r ≡ sampleOf (negsuc n) ⌝ }
 {
@@ -35,13 +35,13 @@ fn between(start: u64, time: u64) -> Placed
         if 86400000000000 < n {
             return Placed::Refused(61);
         }
-        Placed::Sample(after(n))
+        Placed::Sample(later(n))
     } else {
         let n = start - time - 1;
         if 86400000000000 <= n {
             return Placed::Refused(61);
         }
-        Placed::Sample(before(n))
+        Placed::Sample(earlier(n))
     }
 }
 

@@ -32,7 +32,7 @@ returns-3 c =
     let t = c .before .before .before .args .time in
     let h : s ≤ t = c .before .before .if1 .taken in
     let k : t - s ≤ 86400000000000 = c .before .if2 .left in
-    let e = c .after .ensures in
+    let e = c .later .ensures in
     rw (e, apart-after s t h) (ap Placed.Sample (stored (pos (t - s)) k) ∙ sym (near (pos (t - s)) k))
 
 returns-4 : tie.Need-returns-4
@@ -42,7 +42,7 @@ returns-4 c =
     let h : t < s = c .before .before .if1 .left in
     let k : suc (s - suc t) ≤ 86400000000000 = let l = c .before .if3 .left in omega arith in
     let m : s - t - 1 ≡ s - suc t = omega arith in
-    let e = c .before2 .ensures in
+    let e = c .earlier .ensures in
     rw (e, m, apart-before s t h) (ap Placed.Sample (stored (negsuc (s - suc t)) k) ∙ sym (near (negsuc (s - suc t)) k))
 
 pub between-spec : {M : Type 1} → statement M

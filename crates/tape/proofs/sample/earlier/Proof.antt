@@ -7,8 +7,8 @@ use mir.Syntax.{w64}
 use mir.Val.{SFits, toZ}
 use mir.Facts.{toZ-ofZ}
 use Rattle.tape.proofs.SampleLaws.{sample-before, minus-one, as-signed}
-use Rattle.tape.proofs.sample.before.Statement.{statement}
-use Rattle.tape.proofs.sample.before.Tie as tie
+use Rattle.tape.proofs.sample.earlier.Statement.{statement}
+use Rattle.tape.proofs.sample.earlier.Tie as tie
 
 -- what the cast and the subtraction give
 less : (c : tie.Start) → negsuc 0 -ℤ toZ w64 ((c .args .n * 6 + 5) / 125000) ≡ negsuc ((c .args .n * 6 + 5) / 125000)
@@ -25,5 +25,5 @@ returns c =
     let e : (n * 6 + 5) / 125000 ≡ (6 * n + 5) / 125000 = omega arith in
     toZ-ofZ (sub-result c) ∙ less c ∙ ap negsuc e ∙ sym (sample-before n)
 
-pub before-spec : {M : Type 1} → statement M
-before-spec = tie.close (tie.spec (λ c. search needs) (λ c. search needs) (λ c. search needs) sub-result returns)
+pub earlier-spec : {M : Type 1} → statement M
+earlier-spec = tie.close (tie.spec (λ c. search needs) (λ c. search needs) (λ c. search needs) sub-result returns)
