@@ -19,7 +19,7 @@ use Rattle.tape.specs.Start.{afterOf, afterAll}
 use Rattle.tape.specs.declared.microphone.Microphone.{Microphone}
 use Rattle.tape.specs.declared.microphone.Microphone.the-variants as Microphone
 use Rattle.listing.specs.Field.{foundLines}
-use Rattle.listed.specs.File.{linesOf, endOf, listedOf, seenLines, afterSeen, pieceLines, piecesLines, writtenOf}
+use Rattle.listed.specs.File.{linesOf, endLines, listedOf, seenLines, afterSeen, pieceLines, piecesLines, writtenOf}
 
 -- the lines of a field are those of its own bytes and of the start in force before it
 pub lines-split : (m : Microphone) (fs gs : List Finding) → linesOf m (fs ++ gs) ≡ linesOf m fs ++ linesOf (afterAll m fs) gs
@@ -113,4 +113,4 @@ pub listed-in-pieces : (buffer : List ℕ) (ts : List (List ℕ)) → length buf
 unfolding writtenOf listedOf
 listed-in-pieces buffer ts e =
     rw (pieces-lines ts Microphone.Silent (fresh 0) buffer)
-    (ap (λ (l : Listing). linesOf Microphone.Silent (l .findings) ++ endOf l) (in-pieces buffer ts e))
+    (ap (λ (l : Listing). linesOf Microphone.Silent (l .findings) ++ endLines l) (in-pieces buffer ts e))

@@ -22,12 +22,12 @@ abbrev pub linesOf : Microphone → List Finding → List (List ℕ)
 linesOf m [] = []
 linesOf m (f ∷ fs) = foundLines m (f .tag) (f .size) (f .found) (f .body) ++ linesOf (afterOf m (f .found)) fs
 
-abbrev pub endOf : Listing → List (List ℕ)
-endOf l = endLine (l .answer) (l .skipped) ∷ []
+abbrev pub endLines : Listing → List (List ℕ)
+endLines l = endLine (l .answer) (l .skipped) ∷ []
 
 -- all that is written of a file
 unfoldable pub listedOf : List ℕ → List (List ℕ)
-listedOf s = linesOf Microphone.Silent (listingOf s .findings) ++ endOf (listingOf s)
+listedOf s = linesOf Microphone.Silent (listingOf s .findings) ++ endLines (listingOf s)
 
 -- In pieces: of what a call saw, the lines, from the buffer as the call left it, and the start in force.
 abbrev pub seenLines : Microphone → Seen → List ℕ → List (List ℕ)
@@ -55,4 +55,4 @@ piecesLines m p buffer (t ∷ ts) =
 
 -- from the start of a file to its end
 unfoldable pub writtenOf : List ℕ → List (List ℕ) → List (List ℕ)
-writtenOf buffer ts = piecesLines Microphone.Silent (fresh 0) buffer ts ++ endOf (toldOf (onPieces (fresh 0) buffer ts))
+writtenOf buffer ts = piecesLines Microphone.Silent (fresh 0) buffer ts ++ endLines (toldOf (onPieces (fresh 0) buffer ts))

@@ -24,7 +24,7 @@ upBy n z = negℤ (downBy n (negℤ z))
 abbrev pub apartOf : Time → Time → ℤ
 apartOf start time = pos (ns time) -ℤ pos (ns start)
 
--- 48,000 samples a second are 6 in 125,000 ns: the sample that is playing d nanoseconds after the start
+-- 48,000 samples a second are 6 in 125,000 ns: the sample under way d nanoseconds after the start
 unfoldable pub sampleOf : ℤ → ℤ
 sampleOf d = downBy 125000 (pos 6 *ℤ d)
 
