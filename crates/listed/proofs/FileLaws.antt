@@ -8,9 +8,9 @@ use lib.Dec.{ltb, leb, eqb}
 use borrow.Author.Tests.{le-leb, ltb-false}
 use Rattle.codec.specs.Choice.{pick}
 use Rattle.codec.specs.Field.{bytesAt}
-use Rattle.recording.specs.File.{Finding, Listing, listingOf, verdict, keeps, frameFound, noteFound, startIn, startFound}
+use Rattle.recording.specs.File.{Finding, Listing, verdict, keeps, frameFound, noteFound, startIn, startFound}
 use Rattle.recording.specs.Pieces.{fresh, nextOf, keptOf, endsOf, placeOf, usedOf, bufferOf, sizeOf, foundOf, lengthOf}
-use Rattle.recording.specs.Calls.{noted, onPiece, onPieces, inPieces, join}
+use Rattle.recording.specs.Calls.{noted, onPiece, onPieces, join}
 use Rattle.recording.specs.declared.pieces.Place.{Place}
 use Rattle.recording.specs.declared.pieces.Seen.{Seen}
 use Rattle.recording.specs.declared.pieces.Seen.the-variants as Seen

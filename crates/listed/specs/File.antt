@@ -7,7 +7,6 @@ use Rattle.codec.specs.Choice.{pick}
 use Rattle.recording.specs.File.{Finding, Listing, listingOf}
 use Rattle.recording.specs.Pieces.{fresh, nextOf, keptOf}
 use Rattle.recording.specs.Calls.{onPiece, onPieces, toldOf}
-use Rattle.recording.specs.declared.field.Field.{Field}
 use Rattle.recording.specs.declared.pieces.Place.{Place}
 use Rattle.recording.specs.declared.pieces.Seen.{Seen}
 use Rattle.recording.specs.declared.pieces.Seen.the-variants as Seen

@@ -1,9 +1,8 @@
 -- A signed number by its sign. Assumes nothing.
 use Prim.Native.Nat.{ℕ, suc, _-_, _<_}
-use mathlib.Core.Path.{_≡_, sym, _∙_, ap, subst}
-use mathlib.Core.Bool.{true, false}
+use mathlib.Core.Path.{_≡_, sym, _∙_, ap}
+use mathlib.Core.Bool.{true, false, true≢false}
 use native.Mathlib.Omega.{arith}
-use lib.Dec.{T}
 use lib.IntN.{ℤ, pos, negsuc, _-ℤ_}
 use lib.Signed.{ltZ}
 use mir.Syntax.{w64}
@@ -20,7 +19,7 @@ when-below P {z = negsuc a} f e p = p a (f .sfits)
 
 pub when-not : (P : ℤ → Type 0) {z : ℤ} → SFits w64 z → ltZ (toZ w64 (ofZ w64 z)) (pos 0) ≡ false → ((a : ℕ) → a < 9223372036854775808 → P (pos a)) → P z
 when-not P {z = pos a} f e p = p a (f .sfits)
-when-not P {z = negsuc a} f e p = absurd (subst T (sym (ap (λ (z : ℤ). ltZ z (pos 0)) (toZ-ofZ f)) ∙ e) tt)
+when-not P {z = negsuc a} f e p = absurd (true≢false (sym (ap (λ (z : ℤ). ltZ z (pos 0)) (toZ-ofZ f)) ∙ e))
 
 -- one less turned round
 turned : (a : ℕ) → negsuc 0 -ℤ negsuc a ≡ pos a

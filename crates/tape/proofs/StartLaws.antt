@@ -1,8 +1,7 @@
 -- Which start is in force: the latest good one before a field. Assumes nothing.
-use mathlib.Core.Path.{_≡_, refl, _∙_, ap, subst}
-use mathlib.Core.Bool.{true, false}
+use mathlib.Core.Path.{_≡_, refl, _∙_, ap}
+use mathlib.Core.Bool.{true, false, true≢false}
 use mathlib.Core.List.{List, [], _∷_, _++_}
-use lib.Dec.{T}
 use Rattle.codec.specs.declared.time.Time.{Time}
 use Rattle.recording.specs.File.{Finding}
 use Rattle.recording.specs.declared.field.Found.{Found}
@@ -15,7 +14,7 @@ use Rattle.tape.specs.Start.{afterOf, afterAll, starts, NoStart}
 pub others-keep : (m : Microphone) (x : Found) → starts x ≡ false → afterOf m x ≡ m
 others-keep m (Found.Frame h) e = refl
 others-keep m Found.Note e = refl
-others-keep m (Found.Start t) e = absurd (subst T e tt)
+others-keep m (Found.Start t) e = absurd (true≢false e)
 others-keep m (Found.Refused answer) e = refl
 others-keep m Found.Skipped e = refl
 

@@ -1,5 +1,5 @@
 -- Where on the tape of a microphone a time lies (docs/RULES.md, "Where on the tape"). Numbers with a sign are the library's: pos n is
--- n, negsuc n is -(n + 1).
+-- n, negsuc n is -(n + 1); sucℤ z is z + 1, natAbs z is z without its sign.
 use Prim.Native.Nat.{ℕ}
 use mathlib.Core.Path.{_≡_}
 use mathlib.Core.Bool.{Bool}
@@ -13,7 +13,7 @@ use Rattle.codec.specs.declared.time.Time.{Time}
 use Rattle.tape.specs.declared.sample.Placed.{Placed}
 use Rattle.tape.specs.declared.sample.Placed.the-variants as Placed
 
--- a number divided, rounded towards minus infinity, and up
+-- a number divided, rounded towards minus infinity (shrZ takes a to a / n and -(a + 1) to -(a / n + 1)), and up
 abbrev pub downBy : ℕ → ℤ → ℤ
 downBy n z = shrZ z n
 
