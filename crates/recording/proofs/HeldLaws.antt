@@ -80,9 +80,9 @@ drop-take (suc h) zero t = let e : 0 - suc h ≡ 0 = omega arith in rw e
 drop-take (suc h) (suc n) [] = sym (take-nil (suc n - suc h))
 drop-take (suc h) (suc n) (x ∷ t) = let e : suc n - suc h ≡ n - h = omega arith in rw e (drop-take h n t)
 
-take-over : (l : List ℕ) (at : ℕ) (bs : List ℕ) → at + length bs ≤ length l → take (at + length bs) (over l at bs) ≡ take at l ++ bs
+pub take-over : (l : List ℕ) (at : ℕ) (bs : List ℕ) → at ≤ length l → take (at + length bs) (over l at bs) ≡ take at l ++ bs
 take-over l at bs h =
-    let n : length (take at l ++ bs) ≡ at + length bs = rw (length-append (take at l) bs, length-take-le at l (omega arith)) in
+    let n : length (take at l ++ bs) ≡ at + length bs = rw (length-append (take at l) bs, length-take-le at l h) in
     take-at (take at l ++ bs) (drop (at + length bs) l) (at + length bs) n
 
 verdict-as : {a a' n n' : ℕ} {b b' : List ℕ} → a ≡ a' → n ≡ n' → b ≡ b' → verdict a n b ≡ verdict a' n' b'
@@ -202,7 +202,7 @@ module _ (p : Place) (buffer u t : List ℕ) (h : Holds p buffer u) where
     kept-on : take (length u + n - 3) (keptOf p buffer t) ≡ drop 3 (u ++ take n t)
     kept-on =
         rw (laid-over, ← ends-at)
-        (take-over buffer (length u - 3) (partOf (headedOf p t) t) room ∙ rw (kept-before k) (sym grown))
+        (take-over buffer (length u - 3) (partOf (headedOf p t) t) (omega (arith, room)) ∙ rw (kept-before k) (sym grown))
 
   kept-length : length (keptOf p buffer t) ≡ length buffer
   unfolding keptOf bufferOf

@@ -109,7 +109,7 @@ either-used : (b : Bool) (x y : Step) {n : ℕ} → x .used ≡ n → y .used �
 either-used true x y e f = e
 either-used false x y e f = f
 
-used-is : (p : Place) (buffer piece : List ℕ) → nextOf p buffer piece .used ≡ usedOf (placeOf p piece) (length piece)
+pub used-is : (p : Place) (buffer piece : List ℕ) → nextOf p buffer piece .used ≡ usedOf (placeOf p piece) (length piece)
 unfolding nextOf endsOf
 used-is p buffer piece = either-used (ltb (placeOf p piece .past + usedOf (placeOf p piece) (length piece)) (sizeOf (placeOf p piece))) _ _ refl refl
 
@@ -121,7 +121,7 @@ sound-short p = go (ltb (p .past) (sizeOf p)) refl
     go true e = ltb-true (p .past) (sizeOf p) e
     go false e = omega arith
 
-place-short : (p : Place) (piece : List ℕ) → placeOf p piece .past < sizeOf (placeOf p piece)
+pub place-short : (p : Place) (piece : List ℕ) → placeOf p piece .past < sizeOf (placeOf p piece)
 unfolding placeOf headedOf
 place-short p piece = go (leb 3 (soundOf p .past)) refl
   where

@@ -5,6 +5,8 @@ use Rattle.recording.proofs.field.judge.Reads as judge
 use Rattle.recording.proofs.field.kept.Reads as kept
 use Rattle.recording.proofs.pieces.begin.Reads as begin
 use Rattle.recording.proofs.pieces.next.Reads as next
+use Rattle.recording.proofs.pieces.one_more.Reads as one-more
+use Rattle.recording.proofs.pieces.inside.Reads as inside
 use Rattle.recording.proofs.pieces.finish.Reads as finish
 use Rattle.recording.proofs.write.frame.Reads as frame
 use Rattle.recording.proofs.write.note.Reads as note
@@ -21,6 +23,12 @@ begin-unique κs a r r′ x x′ p q = p ∙ sym q
 
 pub next-unique : (κs : _) (a : _) (r r′ : _) (x x′ : _) → next.Post κs a r x → next.Post κs a r′ x′ → (r ≡ r′) × (now (x .1 .0) ≡ now (x′ .1 .0))
 next-unique κs a r r′ x x′ p q = (p .0 ∙ sym (q .0), p .1 ∙ sym (q .1))
+
+pub one-more-unique : (κs : _) (a : _) (r r′ : _) (x x′ : _) → one-more.Post κs a r x → one-more.Post κs a r′ x′ → r ≡ r′
+one-more-unique κs a r r′ x x′ p q = p ∙ sym q
+
+pub inside-unique : (κs : _) (a : _) (r r′ : _) (x x′ : _) → inside.Post κs a r x → inside.Post κs a r′ x′ → r ≡ r′
+inside-unique κs a r r′ x x′ p q = p ∙ sym q
 
 pub finish-unique : (κs : _) (a : _) (r r′ : _) (x x′ : _) → finish.Post κs a r x → finish.Post κs a r′ x′ → r ≡ r′
 finish-unique κs a r r′ x x′ p q = p ∙ sym q

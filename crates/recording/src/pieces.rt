@@ -153,7 +153,8 @@ fn found(p: Place, buffer: &[u8]) -> Found
     crate::field::judge(p.tag, n, codec::field::part_at(buffer, 0, n as usize))
 }
 
-fn one_more(skipped: u32) -> u32
+// A count of fields with one more, which stops at 4,294,967,295.
+pub fn one_more(skipped: u32) -> u32
     ensures { λ r. ⌜ r ≡ min (skipped + 1) 4294967295 ⌝ }
 {
     if skipped < 4294967295 {
@@ -229,6 +230,14 @@ pub fn next(place: Place, buffer: &mut [u8; 1472], piece: &[u8]) -> Step
     ensures { λ _. ⌜ now (buffer .exit) ≡ keptOf place (now (buffer .entry)) (now (piece .entry)) ⌝ }
 {
     advance(place, buffer, piece)
+}
+
+// How many bytes of the field under way were read, tag and length among them: none between two fields.
+pub fn inside(place: Place) -> usize
+    ensures { λ r. ⌜ r ≡ soundOf place .past ⌝ }
+{
+    let p = sound(place);
+    p.past
 }
 
 // The answer at the end of the input: 0, or 40 inside a field.

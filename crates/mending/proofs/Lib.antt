@@ -1,0 +1,8 @@
+pub mod HoldLaws
+pub mod TallyLaws
+pub mod CopyLaws
+pub mod DamageLaws
+pub mod CopyPieces
+pub mod CheckLaws
+pub mod Unique
+pub mod Vectors

@@ -1,0 +1,4 @@
+pub mod Copy
+pub mod Damage
+pub mod Check
+pub mod Calls
