@@ -1,29 +1,26 @@
 // The recording in the pieces that reading gives.
-use codec::number::Put;
+use crate::job::Behind;
+use crate::job::Job;
 use libc::STDERR_FILENO;
 use libc::STDIN_FILENO;
 use libc::STDOUT_FILENO;
-use listing::Cursor;
-use recording::pieces::Place;
+use mending::check::Tally;
 use recording::pieces::Seen;
 use tape::Microphone;
 
 // A program cannot end with a status of its own. What started it may listen here, and hears of a failure.
 const STATUS: i32 = 3;
 
-// Where reading stands; where the lines end that are not yet written; the start from which positions count; and
-// whether writing failed.
+// What reading leaves behind it; where the text ends that is not yet written; and whether writing failed.
 struct Told {
-    place: Place,
+    behind: Behind,
     at: usize,
-    microphone: Microphone,
     failed: bool,
 }
 
-// What is kept from piece to piece: the start, how much was read, and whether it is over.
+// What is kept from piece to piece: that, how much was read, and whether it is over.
 struct State {
-    place: Place,
-    microphone: Microphone,
+    behind: Behind,
     read: u64,
     over: bool,
 }
@@ -33,50 +30,50 @@ fn fail(what: &[u8]) {
     io::write_all(STATUS, b"1\n");
 }
 
-// Where writing goes on.
-fn past(put: Put, at: usize) -> usize {
-    match put {
-        Put::Next(end) => end,
-        Put::Nothing => at,
+fn fail_reading(job: Job) {
+    match job {
+        Job::List => fail(b"list: reading the recording"),
+        Job::Check => fail(b"check: reading the recording"),
+        Job::Mend => fail(b"mend: reading the recording"),
     }
 }
 
-// The lines of one field are at most 65,536 bytes, so that they fit after as many.
+fn fail_writing(job: Job) {
+    match job {
+        Job::List => fail(b"list: writing the listing"),
+        Job::Check => fail(b"check: writing the lines"),
+        Job::Mend => fail(b"mend: writing the copy"),
+    }
+}
+
+// What is written of one field is at most 65,538 bytes, so that it fits after as many.
 fn roomy(told: Told, out: &[u8]) -> Told {
-    if told.at <= 65536 {
+    if told.at <= 65538 {
         return told;
     }
     written(told, out)
 }
 
 fn written(told: Told, out: &[u8]) -> Told {
-    let place = told.place;
-    let microphone = told.microphone;
+    let behind = told.behind;
     let failed = told.failed || !io::write_all(STDOUT_FILENO, text::part::front(out, told.at));
     Told {
-        place,
+        behind,
         at: 0,
-        microphone,
         failed,
     }
 }
 
-fn found(told: Told, seen: Seen, body: &[u8], out: &mut [u8]) -> Told {
+fn found(job: Job, told: Told, seen: Seen, body: &[u8], hold: &[u8], out: &mut [u8]) -> Told {
     match seen {
         Seen::Field(field) => {
             let roomy = roomy(told, out);
-            let place = roomy.place;
-            let microphone = roomy.microphone;
-            let cursor = Cursor {
-                at: roomy.at,
-                microphone,
-            };
-            let next = listing::lines(out, cursor, field, body);
-            let heard = next.microphone;
+            let before = roomy.behind;
+            let done = crate::job::found(job, before, field, body, hold, out, roomy.at);
+            let behind = done.behind;
             Told {
-                place,
-                at: next.at,
-                microphone: heard,
+                behind,
+                at: done.at,
                 failed: roomy.failed,
             }
         }
@@ -84,70 +81,68 @@ fn found(told: Told, seen: Seen, body: &[u8], out: &mut [u8]) -> Told {
     }
 }
 
-// The fields that end in this piece, and then no line is held back: who watches sees what was read.
+// The fields that end in this piece, and then nothing is held back: who watches sees what was read.
 fn take(
+    job: Job,
     piece: &[u8],
     body: &mut [u8; 1472],
+    hold: &mut [u8; 65538],
     out: &mut [u8],
-    start: Place,
-    since: Microphone,
+    start: Behind,
 ) -> Told {
     let mut told = Told {
-        place: start,
+        behind: start,
         at: 0,
-        microphone: since,
         failed: false,
     };
     let mut rest = piece;
     while 0 < rest.len() {
-        let step = recording::pieces::next(told.place, body, rest);
+        let behind = told.behind;
+        let step = crate::job::next(job, behind.place, body, hold, rest);
         let place = step.place;
         let seen = step.seen;
         let used = step.used;
-        let microphone = told.microphone;
+        let microphone = behind.microphone;
+        let tally = behind.tally;
         let on = Told {
-            place,
+            behind: Behind {
+                place,
+                microphone,
+                tally,
+            },
             at: told.at,
-            microphone,
             failed: told.failed,
         };
-        told = found(on, seen, body, out);
+        told = found(job, on, seen, body, hold, out);
         rest = &rest[used..];
     }
     written(told, out)
 }
 
 // Every 16 MiB, on standard error.
-fn tell(before: u64, read: u64) {
+fn tell(job: Job, before: u64, read: u64) {
     if before / 16777216 == read / 16777216 {
         return;
     }
     let mut line = [0u8; 64];
-    let a = past(codec::number::put_bytes(&mut line, 0, b"list: "), 0);
-    let b = past(text::put::decimal(&mut line, a, read / 1048576), a);
-    let d = past(
-        codec::number::put_bytes(&mut line, b, b" MiB of the recording are listed\n"),
-        b,
-    );
-    io::write_all(STDERR_FILENO, text::part::front(&line, d));
+    let n = crate::job::come(job, &mut line, read / 1048576);
+    io::write_all(STDERR_FILENO, text::part::front(&line, n));
 }
 
-fn over(place: Place, microphone: Microphone, read: u64) -> State {
+fn over(behind: Behind, read: u64) -> State {
     State {
-        place,
-        microphone,
+        behind,
         read,
         over: true,
     }
 }
 
-fn last(out: &mut [u8], place: Place, microphone: Microphone, read: u64) -> State {
-    let answer = recording::pieces::finish(place);
-    let at = past(listing::end(out, 0, answer, place.skipped), 0);
+fn last(job: Job, out: &mut [u8], behind: Behind, read: u64) -> State {
+    let at = crate::job::last(job, behind, out);
     if !io::write_all(STDOUT_FILENO, text::part::front(out, at)) {
-        fail(b"list: writing the listing");
+        fail_writing(job);
     }
-    over(place, microphone, read)
+    over(behind, read)
 }
 
 fn grown(read: u64, n: usize) -> u64 {
@@ -159,52 +154,58 @@ fn grown(read: u64, n: usize) -> u64 {
     }
 }
 
-fn goes_on(told: Told, before: u64, n: usize) -> State {
-    let place = told.place;
-    let microphone = told.microphone;
+fn goes_on(job: Job, told: Told, before: u64, n: usize) -> State {
+    let behind = told.behind;
     let read = grown(before, n);
     if told.failed {
-        fail(b"list: writing the listing");
-        return over(place, microphone, read);
+        fail_writing(job);
+        return over(behind, read);
     }
-    tell(before, read);
+    tell(job, before, read);
     State {
-        place,
-        microphone,
+        behind,
         read,
         over: false,
     }
 }
 
-fn turn(body: &mut [u8; 1472], out: &mut [u8], state: State) -> State {
+fn turn(
+    job: Job,
+    body: &mut [u8; 1472],
+    hold: &mut [u8; 65538],
+    out: &mut [u8],
+    state: State,
+) -> State {
     let mut chunk = io::large_buffer();
     let got = libc::read(STDIN_FILENO, &mut chunk);
-    let place = state.place;
-    let microphone = state.microphone;
+    let behind = state.behind;
     if got < 0 {
-        fail(b"list: reading the recording");
-        return over(place, microphone, state.read);
+        fail_reading(job);
+        return over(behind, state.read);
     }
     let n = io::count(got, &chunk);
     if n == 0 {
-        return last(out, place, microphone, state.read);
+        return last(job, out, behind, state.read);
     }
-    let told = take(&chunk[..n], body, out, place, microphone);
-    goes_on(told, state.read, n)
+    let told = take(job, &chunk[..n], body, hold, out, behind);
+    goes_on(job, told, state.read, n)
 }
 
 // A proved loop has to end, and nothing says that the input does. So it counts its turns down, from a
 // number that no run uses up.
-pub(crate) fn run(body: &mut [u8; 1472], out: &mut [u8]) {
+pub(crate) fn run(body: &mut [u8; 1472], hold: &mut [u8; 65538], out: &mut [u8], job: Job) {
     let mut state = State {
-        place: recording::pieces::begin(),
-        microphone: Microphone::Silent,
+        behind: Behind {
+            place: recording::pieces::begin(),
+            microphone: Microphone::Silent,
+            tally: Tally { good: 0, bad: 0 },
+        },
         read: 0,
         over: false,
     };
     let mut turns = u64::MAX;
     while 0 < turns {
-        state = turn(body, out, state);
+        state = turn(job, body, hold, out, state);
         if state.over {
             return;
         }

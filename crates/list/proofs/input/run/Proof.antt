@@ -5,10 +5,10 @@ use Rattle.list.proofs.input.run.Statement.{statement}
 use Rattle.list.proofs.input.run.Tie as tie
 
 abbrev Inv-loop : tie.InvT-loop
-Inv-loop body₀ out₀ state₀ turns₀ body out state turns = length out ≡ length out₀
+Inv-loop body₀ hold₀ out₀ job state₀ turns₀ body hold out state turns = length out ≡ length out₀
 
 abbrev μ-loop : tie.MeasureT-loop
-μ-loop body₀ out₀ state₀ turns₀ body out state turns = turns
+μ-loop body₀ hold₀ out₀ job state₀ turns₀ body hold out state turns = turns
 
 pub run-spec : {M : Type 1} → statement M
 run-spec =
