@@ -1,4 +1,4 @@
-"""What the tools that try `list` and `record` have in common: the programs, the stored cases, and inputs that come in pieces."""
+"""What the tools that try `list`, `record`, `check` and `mend` have in common: the programs, the stored cases, and inputs that come in pieces."""
 import fcntl
 import os
 import platform
@@ -13,6 +13,8 @@ os.chdir(os.path.join(os.path.dirname(os.path.abspath(__file__)), '..'))
 DIRECT = platform.machine() == 'x86_64'
 LIST = ['target/bin/list'] if DIRECT else ['./run', 'list']
 RECORD = ['target/bin/replay', 'record'] if DIRECT else ['./run', 'record']
+CHECK = ['target/bin/list', 'check'] if DIRECT else ['./run', 'check']
+MEND = ['target/bin/list', 'mend'] if DIRECT else ['./run', 'mend']
 
 
 def made(oracle, *words):

@@ -2,7 +2,10 @@
 
 mod calls;
 mod cause;
+mod check;
+mod check_pieces;
 mod count;
+mod count_check;
 mod count_clock;
 mod count_error_frames;
 mod count_errors;
@@ -12,10 +15,13 @@ mod count_positions;
 mod count_record;
 mod count_recordings;
 mod cuts;
+mod damaged;
+mod damaged_lengths;
 mod engine;
 mod filter;
 mod frame;
 mod framer;
+mod hits;
 mod listing;
 mod pid;
 mod pieces;
@@ -53,12 +59,28 @@ const USAGE: &str = "usage: oracle answer < script
        oracle recording SEED [FIELDS]
        oracle small-recording SEED FIELDS
        oracle recording-count < recording
-       oracle cuts-count < recording";
+       oracle cuts-count < recording
+       oracle check < recording
+       oracle check-pieces SIZE,SIZE,.. < recording
+       oracle mend < recording > copy
+       oracle mend-pieces SIZE,SIZE,.. < recording > copy
+       oracle damaged SEED FIELDS
+       oracle damaged-lengths SEED FIELDS
+       oracle sound-recording SEED FIELDS
+       oracle hits < recording
+       oracle hits-lengths < recording
+       oracle check-count < recording
+       oracle check-cuts-count < recording
+       oracle hits-count < recording
+       oracle hits-lengths-count < recording";
 
 fn main() -> ExitCode {
     let words: Vec<String> = std::env::args().skip(1).collect();
     let words: Vec<&str> = words.iter().map(String::as_str).collect();
-    let Some(made) = of_scripts(&words).or_else(|| of_recordings(&words)) else {
+    let made = of_scripts(&words)
+        .or_else(|| of_recordings(&words))
+        .or_else(|| of_mending(&words));
+    let Some(made) = made else {
         eprintln!("{USAGE}");
         return ExitCode::from(2);
     };
@@ -115,6 +137,39 @@ fn of_recordings(words: &[&str]) -> Option<io::Result<Vec<u8>>> {
         ["small-recording", seed, fields] => {
             let (seed, fields) = (seed.parse().ok()?, fields.parse().ok()?);
             Ok(recording_maker::make_small(seed, fields))
+        }
+        _ => return None,
+    })
+}
+
+fn of_mending(words: &[&str]) -> Option<io::Result<Vec<u8>>> {
+    Some(match words {
+        ["check"] => input().map(|recording| check::check(&recording)),
+        ["mend"] => input().map(|recording| check::mend(&recording)),
+        ["check-pieces", sizes] => {
+            let sizes = pieces::sizes(sizes)?;
+            input().map(|recording| check_pieces::check(&recording, &sizes))
+        }
+        ["mend-pieces", sizes] => {
+            let sizes = pieces::sizes(sizes)?;
+            input().map(|recording| check_pieces::mend(&recording, &sizes))
+        }
+        ["hits"] => input().map(|recording| hits::lines(&hits::hits(&recording))),
+        ["hits-lengths"] => input().map(|recording| hits::lines(&hits::hits_lengths(&recording))),
+        ["check-count"] => input().map(|recording| count_check::report(&recording)),
+        ["check-cuts-count"] => input().map(|recording| count_check::report_cuts(&recording)),
+        ["hits-count"] => input().map(|recording| count_check::report_hits(&recording)),
+        ["hits-lengths-count"] => {
+            input().map(|recording| count_check::report_hits_lengths(&recording))
+        }
+        [what, seed, fields] => {
+            let make = match *what {
+                "damaged" => damaged::make,
+                "damaged-lengths" => damaged_lengths::make,
+                "sound-recording" => recording_maker::make_sound,
+                _ => return None,
+            };
+            Ok(make(seed.parse().ok()?, fields.parse().ok()?))
         }
         _ => return None,
     })

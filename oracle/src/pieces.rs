@@ -96,20 +96,28 @@ fn refused<'a>(tag: u8, answer: u8) -> Found<'a> {
     Found::Refused { tag, answer }
 }
 
-/// The listing of a recording that is handed over in pieces of these sizes, over and over. One of
-/// them has to be over 0, or the end never comes.
+/// The listing of a recording that is handed over in pieces of these sizes, over and over.
 pub fn list(recording: &[u8], sizes: &[usize]) -> Vec<u8> {
     let mut reader = PieceReader::default();
+    for piece in cut(recording, sizes) {
+        reader.read(piece);
+    }
+    reader.end()
+}
+
+/// Pieces of these sizes, over and over. One of them has to be over 0, or the end never comes.
+pub fn cut<'a>(recording: &'a [u8], sizes: &[usize]) -> Vec<&'a [u8]> {
+    let mut pieces = Vec::new();
     let mut rest = recording;
     for &size in sizes.iter().cycle() {
         if rest.is_empty() {
             break;
         }
         let (piece, behind) = rest.split_at(size.min(rest.len()));
-        reader.read(piece);
+        pieces.push(piece);
         rest = behind;
     }
-    reader.end()
+    pieces
 }
 
 /// Sizes as `3,0,1472`; not all of them 0.

@@ -8,6 +8,8 @@ pub const FRAME: u8 = 1;
 pub const NOTE: u8 = 2;
 pub const START: u8 = 3;
 
+/// Tag and length, before a field's body.
+pub const HEAD: usize = 3;
 /// Of a frame or a note.
 pub const LONGEST_BODY: usize = 1_472;
 /// Seconds 6, nanoseconds 4, as in a frame's header.
@@ -46,7 +48,7 @@ pub fn fields(recording: &[u8]) -> (Vec<Field<'_>>, &[u8]) {
 }
 
 fn first_field(bytes: &[u8]) -> Option<(Field<'_>, &[u8])> {
-    let (&[tag, high, low], behind) = bytes.split_first_chunk::<3>()?;
+    let (&[tag, high, low], behind) = bytes.split_first_chunk::<HEAD>()?;
     let length = usize::from(high) * 256 + usize::from(low);
     let (body, behind) = behind.split_at_checked(length)?;
     Some((Field { tag, body }, behind))

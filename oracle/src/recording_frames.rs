@@ -54,6 +54,20 @@ pub fn every_form(random: &mut Random) -> Vec<u8> {
     valid::frame(random, items).bytes()
 }
 
+/// An item of this kind with each set of flags, none with more than three bytes of payload.
+pub fn short_forms(random: &mut Random, kind: u8) -> Vec<u8> {
+    let mut items = Vec::new();
+    for flags in FLAG_SETS {
+        let mut item = valid::item(random, kind, flags);
+        if flags & PAYLOAD != 0 {
+            let length = random.below(4);
+            item.set_payload(random.bytes(length));
+        }
+        items.push(item);
+    }
+    valid::frame(random, items).bytes()
+}
+
 /// A right frame of so many bytes, at least 22.
 pub fn of_length(random: &mut Random, length: usize) -> Vec<u8> {
     long_frame(random, length).bytes()
@@ -174,6 +188,10 @@ mod tests {
             let sorts = [right, with_items, of_states, without_items, every_form];
             for sort in sorts {
                 assert!(reader::read(&sort(&mut random)).is_ok());
+            }
+            for kind in KINDS {
+                let short = short_forms(&mut random, kind);
+                assert!(reader::read(&short).is_ok() && short.len() <= 60);
             }
             assert_eq!(reader::read(&stump(&mut random)), Err(20));
             assert!(reader::read(&wrong_header(&mut random)).is_err());

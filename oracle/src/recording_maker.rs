@@ -6,6 +6,7 @@ use crate::random::Random;
 use crate::recording::{FRAME, LONGEST_BODY, NOTE, START};
 use crate::recording_ends as ends;
 use crate::recording_frames as frames;
+use crate::script::raw::{CAN, FLEXRAY, LIN};
 use crate::tape::{Part, Tape};
 use std::collections::VecDeque;
 
@@ -354,6 +355,45 @@ const SMALL_DECK: Deck = &[
         m.deal_parts(parts)
     }),
 ];
+
+/// Good and unknown fields that are short. Some would be others with another tag.
+const SOUND_DECK: Deck = &[
+    (1, |m| frame(frames::short_forms(&mut m.random, CAN))),
+    (1, |m| frame(frames::short_forms(&mut m.random, LIN))),
+    (1, |m| frame(frames::short_forms(&mut m.random, FLEXRAY))),
+    (1, |m| frame(frames::of_states(&mut m.random))),
+    (2, |m| {
+        let length = m.random.below(6);
+        m.note(length)
+    }),
+    (1, |m| m.note(0)),
+    (1, |m| m.note(10)),
+    (1, right_start),
+    (1, |m| start(m, 999_999_999)),
+    (2, |m| {
+        let length = m.random.below(6);
+        unknown(m, length)
+    }),
+    (1, |m| unknown(m, 0)),
+    (1, |m| {
+        let body = right_start(m).split_off(3);
+        field(unknown_tag(&mut m.random), body)
+    }),
+    (1, |m| {
+        let body = frames::of_states(&mut m.random);
+        field(unknown_tag(&mut m.random), body)
+    }),
+];
+
+/// So many short fields, none of them refused, and a clean end.
+pub fn make_sound(seed: u64, fields: usize) -> Vec<u8> {
+    let mut maker = Maker::new(seed);
+    let mut out = Vec::new();
+    for _ in 0..fields {
+        out.extend(maker.deal(SOUND_DECK));
+    }
+    out
+}
 
 fn small_frame(maker: &mut Maker) -> Vec<u8> {
     let length = 22 + maker.random.below(12);
