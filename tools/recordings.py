@@ -9,12 +9,15 @@ import termios
 
 os.chdir(os.path.join(os.path.dirname(os.path.abspath(__file__)), '..'))
 
-# ./run looks each time whether a program is out of date, which thousands of small runs need not.
 DIRECT = platform.machine() == 'x86_64'
-LIST = ['target/bin/list'] if DIRECT else ['./run', 'list']
-RECORD = ['target/bin/replay', 'record'] if DIRECT else ['./run', 'record']
-CHECK = ['target/bin/list', 'check'] if DIRECT else ['./run', 'check']
-MEND = ['target/bin/list', 'mend'] if DIRECT else ['./run', 'mend']
+
+
+def how(name):
+    """The command that runs a program. ./run looks each time whether it is out of date, which thousands of small runs need not."""
+    return subprocess.run(['./run', '--how', name], stdout=subprocess.PIPE, check=True, text=True).stdout.splitlines()
+
+
+LIST, RECORD, CHECK, MEND = map(how, ('list', 'record', 'check', 'mend'))
 
 
 def made(oracle, *words):

@@ -1,5 +1,6 @@
 pub mod HoldLaws
 pub mod TallyLaws
+pub mod LineLaws
 pub mod CopyLaws
 pub mod DamageLaws
 pub mod CopyPieces
