@@ -1,13 +1,11 @@
 -- Laws of a check: of the copy, of the listing, and in pieces. Assumes nothing.
 use Prim.Native.Nat.{ℕ, _+_, _≤_, min}
-use mathlib.Core.Path.{_≡_, refl, sym, _∙_, ap}
-use mathlib.Core.Bool.{Bool, true, false, not}
+use mathlib.Core.Path.{_≡_, refl, _∙_, ap}
 use mathlib.Core.List.{List, [], _∷_}
 use native.Mathlib.Omega.{arith}
 use native.Mathlib.Nat.{zero-add}
 use lib.ListN.{length}
-use Rattle.codec.specs.Choice.{pick, bit}
-use Rattle.recording.specs.File.{Finding, Listing, leftOf, findingsOf, listingOf, endOf, skipBit, skips}
+use Rattle.recording.specs.File.{Finding, findingsOf, listingOf, skips}
 use Rattle.recording.specs.Trip.{good}
 use Rattle.recording.specs.Pieces.{fresh, soundOf}
 use Rattle.recording.specs.Calls.{onPieces, join}
@@ -17,7 +15,7 @@ use Rattle.recording.specs.declared.pieces.Place.{Place}
 use Rattle.recording.proofs.PlaceLaws.{sound-same}
 use Rattle.recording.proofs.HeldLaws.{Holds, holds-none}
 use Rattle.recording.proofs.InPieces.{pieces-read}
-use Rattle.mending.specs.Copy.{stays, copyOf, stayed}
+use Rattle.mending.specs.Copy.{copyOf, stayed}
 use Rattle.mending.specs.Check.{countOf, bad, most, tallyOf, tallied, reportOf, checkedOf}
 use Rattle.mending.specs.Calls.{tallyAll, checkedBy}
 use Rattle.mending.specs.declared.check.Tally.{Tally}

@@ -4,11 +4,11 @@ use mathlib.Core.Path.{_≡_, refl, sym, _∙_, ap}
 use mathlib.Core.Bool.{Bool, true, false}
 use mathlib.Core.List.{List, [], _∷_, _++_, append-assoc}
 use native.Mathlib.Omega.{arith}
-use lib.ListN.{length, take, drop, getD, length-drop, take-append-drop}
+use lib.ListN.{length, take, drop, length-drop, take-append-drop}
 use lib.Seq.{length-take-le, take-append-le, take-length, drop-length}
 use Rattle.codec.specs.Choice.{pick}
-use Rattle.recording.specs.File.{Raw, Finding, lengthIn, sizeIn, complete, first, fieldsOf, leftOf, findingOf, findingsOf}
-use Rattle.recording.proofs.FileLaws.{there, is-there, is-cut, body-length, fields-more, fields-end, left-more, left-end, findings-more, findings-end, findings-append, length-stays, size-stays, stays-complete, first-stays, rest-stays}
+use Rattle.recording.specs.File.{Raw, Finding, lengthIn, sizeIn, complete, first, leftOf, findingOf, findingsOf}
+use Rattle.recording.proofs.FileLaws.{there, is-there, is-cut, body-length, fields-more, fields-end, left-more, left-end, findings-more, findings-end, length-stays, size-stays, stays-complete, first-stays, rest-stays}
 use Rattle.mending.specs.Copy.{stays, keptBy, alongKept, copyOf, stayed, AllStay}
 use Rattle.mending.specs.Damage.{Whole}
 

@@ -1,11 +1,11 @@
 -- A field is judged and kept by its own bytes alone, whatever became of the others. Assumes nothing.
 use Prim.Native.Nat.{ℕ}
-use mathlib.Core.Path.{_≡_, refl, sym, _∙_, ap}
-use mathlib.Core.Bool.{true, false}
+use mathlib.Core.Path.{_≡_, sym, _∙_}
+use mathlib.Core.Bool.{false}
 use mathlib.Core.List.{List, [], _∷_, _++_, map, append-assoc}
 use native.Mathlib.Omega.{arith}
-use lib.ListN.{length, getD}
-use Rattle.recording.specs.File.{Raw, sizeIn, complete, first, leftOf, findingOf, findingsOf}
+use lib.ListN.{length}
+use Rattle.recording.specs.File.{sizeIn, complete, first, leftOf, findingOf, findingsOf}
 use Rattle.recording.specs.Calls.{join}
 use Rattle.recording.proofs.FileLaws.{is-there, findings-end, findings-append}
 use Rattle.mending.specs.Copy.{keptBy, copyOf}

@@ -1,12 +1,11 @@
 -- Laws of what is held of the field under way. Assumes nothing.
-use Prim.Native.Nat.{ℕ, zero, suc, _+_, _-_, _≤_, _<_}
-use mathlib.Core.Path.{_≡_, refl, sym, _∙_, ap}
+use Prim.Native.Nat.{ℕ, zero, suc, _+_, _-_, _≤_}
+use mathlib.Core.Path.{_≡_, refl, _∙_, ap}
 use mathlib.Core.Bool.{Bool, true, false}
 use mathlib.Core.List.{List, [], _∷_}
 use native.Mathlib.Omega.{arith}
 use lib.ListN.{length, take, getD, length-take}
 use lib.Dec.{ltb}
-use borrow.Author.Tests.{ltb-true, ltb-false}
 use Rattle.codec.specs.Choice.{pick}
 use Rattle.codec.specs.Number.{Bytes, Wrote}
 use Rattle.codec.specs.declared.number.Put.{Put}
@@ -41,10 +40,6 @@ module _ (p : Place) (piece : List ℕ) (b : Bytes piece) (h : p .high ≤ 255) 
       go : (t : Bool) → (pick t p (fresh (p .skipped)) .high ≤ 255) × (pick t p (fresh (p .skipped)) .low ≤ 255)
       go true = (h, l)
       go false = (omega arith, omega arith)
-
-  place-past : placeOf p piece .past ≡ soundOf p .past
-  unfolding placeOf headedOf
-  place-past = refl
 
   -- the longest field, with tag and length, is 65,538 bytes
   held-most : soundOf p .past + usedOf (placeOf p piece) (length piece) ≤ 65538

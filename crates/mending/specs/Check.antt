@@ -1,7 +1,7 @@
 -- The lines of a checker (docs/SCRIPT.md, "The check"). Numbers below are the characters of the names, 32 a space and 10 a line feed.
 use Prim.Native.Nat.{ℕ, _+_, min}
-use mathlib.Core.Bool.{Bool, true, false, not}
-use mathlib.Core.List.{List, [], _∷_, _++_, map}
+use mathlib.Core.Bool.{Bool, not}
+use mathlib.Core.List.{List, [], _∷_, _++_}
 use lib.ListN.{length}
 use lib.Dec.{eqb}
 use Rattle.codec.specs.Choice.{pick, bit}

@@ -1,7 +1,6 @@
 // Lines of a name and numbers, laid into a local text first, so that an output without room for the whole of a
 // line is left as it was.
 use codec::number::Put;
-ghost use mathlib.Core.Path.{_≡_};
 ghost use mathlib.Core.Bool.{true};
 ghost use Prim.Native.Nat.{_+_, _≤_};
 ghost use lib.ListN.{length};

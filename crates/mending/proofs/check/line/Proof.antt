@@ -1,4 +1,3 @@
-use Rattle.mending.specs.Check.{foundLine}
 use borrow.Author.Needs.{needs}
 use Rattle.mending.proofs.check.line.Statement.{statement}
 use Rattle.mending.proofs.check.line.Tie as tie
