@@ -5,7 +5,7 @@ use crate::check::{mend, verdict, Verdict};
 use crate::hits::{hits, hits_lengths};
 use crate::reader;
 use crate::recording::{fields, Field, FRAME, HEAD, LONGEST_BODY, NOTE, START, START_LENGTH};
-use std::collections::BTreeMap;
+use crate::ways::{sort, Ways};
 
 /// `check-NAME N` for each way that occurred in a recording.
 pub fn report(recording: &[u8]) -> Vec<u8> {
@@ -33,10 +33,9 @@ pub fn report_cuts(recording: &[u8]) -> Vec<u8> {
 fn report_all<'a>(recordings: impl IntoIterator<Item = &'a [u8]>) -> Vec<u8> {
     let mut ways = Ways::default();
     for recording in recordings {
-        ways.look(recording);
+        ways.look_to_mend(recording);
     }
-    let line = |(way, count): (&String, &usize)| format!("check-{way} {count}\n");
-    ways.counts.iter().map(line).collect::<String>().into()
+    ways.report("check-")
 }
 
 #[derive(Clone, Copy)]
@@ -63,23 +62,8 @@ impl Judged<'_> {
     }
 }
 
-#[derive(Default)]
-struct Ways {
-    counts: BTreeMap<String, usize>,
-}
-
 impl Ways {
-    fn add(&mut self, way: impl Into<String>) {
-        *self.counts.entry(way.into()).or_default() += 1;
-    }
-
-    fn add_if(&mut self, holds: bool, way: &str) {
-        if holds {
-            self.add(way);
-        }
-    }
-
-    fn look(&mut self, recording: &[u8]) {
+    fn look_to_mend(&mut self, recording: &[u8]) {
         let (fields, rest) = fields(recording);
         let judge = |&field: &Field<'_>| verdict(field);
         let verdicts: Vec<Verdict> = fields.iter().map(judge).collect();
@@ -88,7 +72,7 @@ impl Ways {
             .map(|(&field, &verdict)| Judged { field, verdict })
             .collect();
         for &one in &judged {
-            self.look_at_field(one);
+            self.look_at_judged(one);
         }
         for pair in judged.windows(2) {
             self.look_at_pair(pair[0], pair[1]);
@@ -100,7 +84,7 @@ impl Ways {
         self.look_at_file(recording, &judged, rest);
     }
 
-    fn look_at_field(&mut self, judged: Judged) {
+    fn look_at_judged(&mut self, judged: Judged) {
         let (tag, length) = (judged.field.tag, judged.length());
         self.add("fields");
         match judged.verdict {
@@ -201,12 +185,12 @@ impl Ways {
         self.add(format!("rest-after-{before}"));
         if let [_, high, low, ref body @ ..] = *rest {
             let length = usize::from(u16::from_be_bytes([high, low]));
-            self.look_at_cut(tag, body, length);
+            self.look_at_unfinished(tag, body, length);
         }
     }
 
     /// How near it is to a field that would be kept, and whether there are fields in it.
-    fn look_at_cut(&mut self, tag: u8, body: &[u8], length: usize) {
+    fn look_at_unfinished(&mut self, tag: u8, body: &[u8], length: usize) {
         let misses_one = body.len() + 1 == length;
         self.add_if(misses_one, &format!("rest-but-a-byte-{}", sort(tag)));
         let holds_field = !fields(body).0.is_empty();
@@ -231,15 +215,6 @@ impl Ways {
             let end = if rest.is_empty() { "" } else { "-before-rest" };
             self.add(format!("file-last-{}{end}", last.word()));
         }
-    }
-}
-
-fn sort(tag: u8) -> &'static str {
-    match tag {
-        FRAME => "frame",
-        NOTE => "note",
-        START => "start",
-        _ => "unknown",
     }
 }
 

@@ -6,7 +6,7 @@ use crate::frame::{Frame, Id, Item, Kind, Time, CAN_EXTENDED, CAN_FD, LAST_SECON
 use crate::reader;
 use crate::recording::{fields, judge, Field, Found};
 use crate::recording::{FRAME, LONGEST_BODY, NOTE, START, START_LENGTH};
-use std::collections::BTreeMap;
+use crate::ways::{sort, Ways};
 
 /// `NAME N` for each way that occurred in a recording.
 pub fn report(recording: &[u8]) -> Vec<u8> {
@@ -22,7 +22,7 @@ pub fn report(recording: &[u8]) -> Vec<u8> {
         }
     }
     ways.look_at_end(recording, rest);
-    ways.report()
+    ways.report("")
 }
 
 /// The same for the ends alone of every part of the recording that starts where it does.
@@ -32,30 +32,10 @@ pub fn report_cuts(recording: &[u8]) -> Vec<u8> {
         let part = &recording[..end];
         ways.look_at_end(part, fields(part).1);
     }
-    ways.report()
-}
-
-#[derive(Default)]
-struct Ways {
-    counts: BTreeMap<String, usize>,
+    ways.report("")
 }
 
 impl Ways {
-    fn add(&mut self, way: impl Into<String>) {
-        *self.counts.entry(way.into()).or_default() += 1;
-    }
-
-    fn add_if(&mut self, holds: bool, way: &str) {
-        if holds {
-            self.add(way);
-        }
-    }
-
-    fn report(&self) -> Vec<u8> {
-        let line = |(way, count): (&String, &usize)| format!("{way} {count}\n");
-        self.counts.iter().map(line).collect::<String>().into()
-    }
-
     fn look_at_field(&mut self, field: Field, before: Option<Found>) {
         let found = judge(field);
         self.add("fields");
@@ -263,15 +243,6 @@ fn kind(kind: Kind) -> &'static str {
         Kind::Can => "can",
         Kind::Lin => "lin",
         Kind::FlexRay => "flexray",
-    }
-}
-
-fn sort(tag: u8) -> &'static str {
-    match tag {
-        FRAME => "frame",
-        NOTE => "note",
-        START => "start",
-        _ => "unknown",
     }
 }
 

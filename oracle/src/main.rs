@@ -41,6 +41,7 @@ mod source;
 mod state;
 mod tape;
 mod text;
+mod ways;
 mod writer;
 
 use std::io::{self, Read, Write};
