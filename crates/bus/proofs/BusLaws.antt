@@ -13,18 +13,18 @@ use mir.Val.{bool_byte}
 use borrow.Author.Tests.{le-ltb, leb-false, ltb-false, eqb-false, not-false}
 use Rattle.codec.specs.Choice.{pick, bit}
 use Rattle.codec.specs.Number.{Below}
-use Rattle.codec.specs.Time.{timeOk}
-use Rattle.codec.specs.Ident.{kind_of, most_of, channelsOk}
-use Rattle.codec.specs.Item.{itemLength}
+use Rattle.codec.specs.Time.{time_ok}
+use Rattle.codec.specs.Ident.{kind_of, most_of, channels_ok}
+use Rattle.codec.specs.Item.{item_length}
 use Rattle.codec.specs.declared.time.Time.{Time}
 use Rattle.codec.specs.declared.ident.Kind.TheVariants as Kind
 use Rattle.codec.specs.declared.ident.Ident.{Ident}
 use Rattle.codec.specs.declared.item.State.TheVariants as State
-use Rattle.codec.proofs.ItemLaws.{most-small}
-use Rattle.bus.specs.Filter.{matches, filtered, isFree, sameKind}
-use Rattle.bus.specs.Source.{passes, freeAt, addCause}
-use Rattle.bus.specs.Report.{errorBits, errorReport, tooBig, earlyCause, lateCause, reportCause}
-use Rattle.bus.specs.Update.{updateCause}
+use Rattle.codec.proofs.ItemLaws.{most_small}
+use Rattle.bus.specs.Filter.{matches, filtered, is_free, same_kind}
+use Rattle.bus.specs.Source.{passes, free_at, add_cause}
+use Rattle.bus.specs.Report.{error_bits, error_report, too_big, early_cause, late_cause, report_cause}
+use Rattle.bus.specs.Update.{update_cause}
 use Rattle.bus.specs.declared.filter.Filter.{Filter}
 use Rattle.bus.specs.declared.filter.Place.{Place}
 use Rattle.bus.specs.declared.filter.Addition.{Addition}
@@ -33,162 +33,162 @@ use Rattle.bus.specs.declared.report.Report.{Report}
 use Rattle.bus.specs.declared.update.Update.{Update}
 
 -- what `search` needs for the length of a field that is an array of structs
-pub length-mapped : {X Y : Type 0} (f : X → Y) (l : List X) (n : ℕ) → length (map f l) ≡ n → length l ≡ n
-length-mapped f l n e = sym (length-map l f) ∙ e
+pub length_mapped : {X Y : Type 0} (f : X → Y) (l : List X) (n : ℕ) → length (map f l) ≡ n → length l ≡ n
+length_mapped f l n e = sym (length-map l f) ∙ e
 
 -- the places that are left to look at
 module _ (ps : List Place) (i : ℕ) (d : Place) (h : i < length ps) where
-  pub passes-hit : (id : Ident) → matches (get_or ps i d).filter id ≡ true → passes (drop i ps) id ≡ true
-  passes-hit id e = rw (drop-cons ps i d, e)
+  pub passes_hit : (id : Ident) → matches (get_or ps i d).filter id ≡ true → passes (drop i ps) id ≡ true
+  passes_hit id e = rw (drop-cons ps i d, e)
 
-  pub passes-miss : (id : Ident) → matches (get_or ps i d).filter id ≡ false → passes (drop i ps) id ≡ passes (drop (i + 1) ps) id
-  passes-miss id e = rw (add-one, drop-cons ps i d, e)
+  pub passes_miss : (id : Ident) → matches (get_or ps i d).filter id ≡ false → passes (drop i ps) id ≡ passes (drop (i + 1) ps) id
+  passes_miss id e = rw (add-one, drop-cons ps i d, e)
 
-  pub free-hit : isFree (get_or ps i d).filter ≡ true → i + freeAt (drop i ps) ≡ i
-  free-hit e = rw (drop-cons ps i d, e) (omega arith)
+  pub free_hit : is_free (get_or ps i d).filter ≡ true → i + free_at (drop i ps) ≡ i
+  free_hit e = rw (drop-cons ps i d, e) (omega arith)
 
-  pub free-miss : isFree (get_or ps i d).filter ≡ false → i + freeAt (drop i ps) ≡ i + 1 + freeAt (drop (i + 1) ps)
-  free-miss e = rw (add-one, drop-cons ps i d, e) (omega arith)
+  pub free_miss : is_free (get_or ps i d).filter ≡ false → i + free_at (drop i ps) ≡ i + 1 + free_at (drop (i + 1) ps)
+  free_miss e = rw (add-one, drop-cons ps i d, e) (omega arith)
 
-pub passes-end : (ps : List Place) (i : ℕ) (id : Ident) → length ps ≤ i → passes (drop i ps) id ≡ false
-passes-end ps i id h = rw (drop_of_length-le ps h)
+pub passes_end : (ps : List Place) (i : ℕ) (id : Ident) → length ps ≤ i → passes (drop i ps) id ≡ false
+passes_end ps i id h = rw (drop_of_length-le ps h)
 
 -- ids that each filter treats alike, and ids that none matches
-pub passes-alike : (ps : List Place) (a b : Ident) → ((f : Filter) → matches f a ≡ matches f b) → passes ps a ≡ passes ps b
-passes-alike [] a b e = refl
-passes-alike (p ∷ ps) a b e = rw (e p.filter, passes-alike ps a b e)
+pub passes_alike : (ps : List Place) (a b : Ident) → ((f : Filter) → matches f a ≡ matches f b) → passes ps a ≡ passes ps b
+passes_alike [] a b e = refl
+passes_alike (p ∷ ps) a b e = rw (e p.filter, passes_alike ps a b e)
 
 pub passes_none : (ps : List Place) (id : Ident) → ((f : Filter) → matches f id ≡ false) → passes ps id ≡ false
 passes_none [] id e = refl
 passes_none (p ∷ ps) id e = rw (e p.filter, passes_none ps id e)
 
-pub free-end : (ps : List Place) (i : ℕ) → length ps ≤ i → i + freeAt (drop i ps) ≡ i
-free-end ps i h = rw (drop_of_length-le ps h) (omega arith)
+pub free_end : (ps : List Place) (i : ℕ) → length ps ≤ i → i + free_at (drop i ps) ≡ i
+free_end ps i h = rw (drop_of_length-le ps h) (omega arith)
 
 -- a flag in its place
-bit-small : (b : Bool) → bool_byte b < 2
-bit-small true = omega arith
-bit-small false = omega arith
+bit_small : (b : Bool) → bool_byte b < 2
+bit_small true = omega arith
+bit_small false = omega arith
 
-byte-bit : (b : Bool) → bool_byte b ≡ bit b
-byte-bit true = refl
-byte-bit false = refl
+byte_bit : (b : Bool) → bool_byte b ≡ bit b
+byte_bit true = refl
+byte_bit false = refl
 
 -- the state byte of CAN and of FlexRay out of its parts
-can-sum : (p o n : ℕ) → p < 2 → o < 2 → n < 16 → bit_or (bit_or (bit_or 64 (p * 2 ^ 5 % 2 ^ 8)) (o * 2 ^ 4 % 2 ^ 8)) n ≡ 64 + p * 32 + o * 16 + n
-can-sum p o n hp ho hn =
+can_sum : (p o n : ℕ) → p < 2 → o < 2 → n < 16 → bit_or (bit_or (bit_or 64 (p * 2 ^ 5 % 2 ^ 8)) (o * 2 ^ 4 % 2 ^ 8)) n ≡ 64 + p * 32 + o * 16 + n
+can_sum p o n hp ho hn =
     let a : p * 2 ^ 5 % 2 ^ 8 ≡ p * 2 ^ 5 = omega arith in
     let b : o * 2 ^ 4 % 2 ^ 8 ≡ o * 2 ^ 4 = omega arith in
     let c : bit_or 64 (p * 2 ^ 5) ≡ (2 + p) * 2 ^ 5 = or_shifted 1 6 (p * 2 ^ 5) (omega arith) ∙ omega arith in
     let d : bit_or ((2 + p) * 2 ^ 5) (o * 2 ^ 4) ≡ (4 + p * 2 + o) * 2 ^ 4 = or_shifted (2 + p) 5 (o * 2 ^ 4) (omega arith) ∙ omega arith in
     rw (a, b, c, d) (or_shifted (4 + p * 2 + o) 4 n (omega arith) ∙ omega arith)
 
-pub can-made : {x n : ℕ} (p o : Bool) → Below x 16 n
+pub can_made : {x n : ℕ} (p o : Bool) → Below x 16 n
     → bit_or (bit_or (bit_or 64 (bool_byte p * 2 ^ 5 % 2 ^ 8)) (bool_byte o * 2 ^ 4 % 2 ^ 8)) n ≡ 64 + bit p * 32 + bit o * 16 + x
-can-made {x} {n} p o k = can-sum (bool_byte p) (bool_byte o) n (bit-small p) (bit-small o) k.below ∙ rw (byte-bit p, byte-bit o, k.is)
+can_made {x} {n} p o k = can_sum (bool_byte p) (bool_byte o) n (bit_small p) (bit_small o) k.below ∙ rw (byte_bit p, byte_bit o, k.is)
 
-pub lin-made : (b : Bool) → bool_byte b * 2 ^ 6 % 2 ^ 8 ≡ bit b * 64
-lin-made true = omega arith
-lin-made false = omega arith
+pub lin_made : (b : Bool) → bool_byte b * 2 ^ 6 % 2 ^ 8 ≡ bit b * 64
+lin_made true = omega arith
+lin_made false = omega arith
 
-flexray-sum : (p n : ℕ) → p < 2 → bit_or (p * 2 ^ 6 % 2 ^ 8) (bit_and n 63) ≡ p * 64 + n % 64
-flexray-sum p n hp =
+flexray_sum : (p n : ℕ) → p < 2 → bit_or (p * 2 ^ 6 % 2 ^ 8) (bit_and n 63) ≡ p * 64 + n % 64
+flexray_sum p n hp =
     let a : p * 2 ^ 6 % 2 ^ 8 ≡ p * 2 ^ 6 = omega arith in
     rw (and_mask n 6, a) (or_shifted p 6 (n % 64) (omega arith))
 
-pub flexray-made : (b : Bool) (n : ℕ) → bit_or (bool_byte b * 2 ^ 6 % 2 ^ 8) (bit_and n 63) ≡ bit b * 64 + n % 64
-flexray-made b n = flexray-sum (bool_byte b) n (bit-small b) ∙ rw (byte-bit b)
+pub flexray_made : (b : Bool) (n : ℕ) → bit_or (bool_byte b * 2 ^ 6 % 2 ^ 8) (bit_and n 63) ≡ bit b * 64 + n % 64
+flexray_made b n = flexray_sum (bool_byte b) n (bit_small b) ∙ rw (byte_bit b)
 
 -- no cause: what each test of a chain left
-pick-0 : (b : Bool) (k r : ℕ) → pick b (suc k) r ≡ 0 → (b ≡ false) × (r ≡ 0)
-pick-0 true k r e = let z : ⊥ = omega arith in absurd z
-pick-0 false k r e = (refl, e)
+pick_0 : (b : Bool) (k r : ℕ) → pick b (suc k) r ≡ 0 → (b ≡ false) × (r ≡ 0)
+pick_0 true k r e = let z : ⊥ = omega arith in absurd z
+pick_0 false k r e = (refl, e)
 
 -- six tests, of which the first that holds gives the answer
 abbrev six : Bool → Bool → Bool → Bool → Bool → Bool → ℕ → ℕ
 six a b d e f g x = pick a 7 (pick b 2 (pick d 4 (pick e 3 (pick f 5 (pick g 6 x)))))
 
-six-0 : (a b d e f g : Bool) (x : ℕ) → six a b d e f g x ≡ 0
+six_0 : (a b d e f g : Bool) (x : ℕ) → six a b d e f g x ≡ 0
     → (a ≡ false) × (b ≡ false) × (d ≡ false) × (e ≡ false) × (f ≡ false) × (g ≡ false) × (x ≡ 0)
-six-0 a b d e f g x z =
-    let z7 = pick-0 a 6 (pick b 2 (pick d 4 (pick e 3 (pick f 5 (pick g 6 x))))) z in
-    let z2 = pick-0 b 1 (pick d 4 (pick e 3 (pick f 5 (pick g 6 x)))) z7.1 in
-    let z4 = pick-0 d 3 (pick e 3 (pick f 5 (pick g 6 x))) z2.1 in
-    let z3 = pick-0 e 2 (pick f 5 (pick g 6 x)) z4.1 in
-    let z5 = pick-0 f 4 (pick g 6 x) z3.1 in
-    let z6 = pick-0 g 5 x z5.1 in
+six_0 a b d e f g x z =
+    let z7 = pick_0 a 6 (pick b 2 (pick d 4 (pick e 3 (pick f 5 (pick g 6 x))))) z in
+    let z2 = pick_0 b 1 (pick d 4 (pick e 3 (pick f 5 (pick g 6 x)))) z7.1 in
+    let z4 = pick_0 d 3 (pick e 3 (pick f 5 (pick g 6 x))) z2.1 in
+    let z3 = pick_0 e 2 (pick f 5 (pick g 6 x)) z4.1 in
+    let z5 = pick_0 f 4 (pick g 6 x) z3.1 in
+    let z6 = pick_0 g 5 x z5.1 in
     (z7.0, z2.0, z4.0, z3.0, z5.0, z6.0, z6.1)
 
-six-stops : (a b d e f g : Bool) (x : ℕ) → (six a b d e f g 0 ≡ 0 → ⊥) → six a b d e f g x ≡ six a b d e f g 0
-six-stops true b d e f g x h = refl
-six-stops false true d e f g x h = refl
-six-stops false false true e f g x h = refl
-six-stops false false false true f g x h = refl
-six-stops false false false false true g x h = refl
-six-stops false false false false false true x h = refl
-six-stops false false false false false false x h = absurd (h refl)
+six_stops : (a b d e f g : Bool) (x : ℕ) → (six a b d e f g 0 ≡ 0 → ⊥) → six a b d e f g x ≡ six a b d e f g 0
+six_stops true b d e f g x h = refl
+six_stops false true d e f g x h = refl
+six_stops false false true e f g x h = refl
+six_stops false false false true f g x h = refl
+six_stops false false false false true g x h = refl
+six_stops false false false false false true x h = refl
+six_stops false false false false false false x h = absurd (h refl)
 
 -- what a report passed that none of the first six tests refuses
 pub record Early (count : ℕ) (s : Source) (r : Report) (n : ℕ) : Type 0 where
-  pub time : timeOk r.time ≡ true
+  pub time : time_ok r.time ≡ true
   pub source : r.source < count
-  pub kind : sameKind s.kind (kind_of r.ident) ≡ true
+  pub kind : same_kind s.kind (kind_of r.ident) ≡ true
   pub started : s.started ≡ true
   pub ranged : r.ranged ≡ true
   pub most : n ≤ most_of r.ident
 
 module _ (count : ℕ) (s : Source) (r : Report) (n : ℕ) where
-  early-0 : (x : ℕ) → earlyCause count s r n x ≡ 0
-      → (not (timeOk r.time) ≡ false) × (leb count r.source ≡ false) × (not (sameKind s.kind (kind_of r.ident)) ≡ false)
+  early_0 : (x : ℕ) → early_cause count s r n x ≡ 0
+      → (not (time_ok r.time) ≡ false) × (leb count r.source ≡ false) × (not (same_kind s.kind (kind_of r.ident)) ≡ false)
       × (not s.started ≡ false) × (not r.ranged ≡ false) × (ltb (most_of r.ident) n ≡ false) × (x ≡ 0)
-  unfolding earlyCause
-  early-0 x e =
-      six-0 (not (timeOk r.time)) (leb count r.source) (not (sameKind s.kind (kind_of r.ident))) (not s.started) (not r.ranged)
+  unfolding early_cause
+  early_0 x e =
+      six_0 (not (time_ok r.time)) (leb count r.source) (not (same_kind s.kind (kind_of r.ident))) (not s.started) (not r.ranged)
       (ltb (most_of r.ident) n) x e
 
-  pub early-then : (x : ℕ) → earlyCause count s r n 0 ≡ 0 → earlyCause count s r n x ≡ x
-  unfolding earlyCause
-  early-then x e = let h = early-0 0 e in rw (h.0, h.1, h.2, h.3, h.4, h.5)
+  pub early_then : (x : ℕ) → early_cause count s r n 0 ≡ 0 → early_cause count s r n x ≡ x
+  unfolding early_cause
+  early_then x e = let h = early_0 0 e in rw (h.0, h.1, h.2, h.3, h.4, h.5)
 
-  pub early-stops : (x : ℕ) → (earlyCause count s r n 0 ≡ 0 → ⊥) → earlyCause count s r n x ≡ earlyCause count s r n 0
-  unfolding earlyCause
-  early-stops x h =
-      six-stops (not (timeOk r.time)) (leb count r.source) (not (sameKind s.kind (kind_of r.ident))) (not s.started) (not r.ranged)
+  pub early_stops : (x : ℕ) → (early_cause count s r n 0 ≡ 0 → ⊥) → early_cause count s r n x ≡ early_cause count s r n 0
+  unfolding early_cause
+  early_stops x h =
+      six_stops (not (time_ok r.time)) (leb count r.source) (not (same_kind s.kind (kind_of r.ident))) (not s.started) (not r.ranged)
       (ltb (most_of r.ident) n) x h
 
-  pub early-passed : (x : ℕ) → earlyCause count s r n x ≡ 0 → Early count s r n
-  early-passed x e =
-      let h = early-0 x e in
+  pub early_passed : (x : ℕ) → early_cause count s r n x ≡ 0 → Early count s r n
+  early_passed x e =
+      let h = early_0 x e in
       record {
-        time = not-false (timeOk r.time) h.0;
+        time = not-false (time_ok r.time) h.0;
         source = leb-false count r.source h.1;
-        kind = not-false (sameKind s.kind (kind_of r.ident)) h.2;
+        kind = not-false (same_kind s.kind (kind_of r.ident)) h.2;
         started = not-false s.started h.3;
         ranged = not-false r.ranged h.4;
         most = ltb-false (most_of r.ident) n h.5;
       }
 
-  pub early-short : earlyCause count s r n 0 ≡ 0 → n ≤ 254
-  early-short e = let h = (early-passed 0 e).most in let k = most-small r.ident in omega arith
+  pub early_short : early_cause count s r n 0 ≡ 0 → n ≤ 254
+  early_short e = let h = (early_passed 0 e).most in let k = most_small r.ident in omega arith
 
 -- what an accepted report passed
 pub record Passed (count f : ℕ) (s : Source) (r : Report) (n : ℕ) : Type 0 where
-  pub time : timeOk r.time ≡ true
+  pub time : time_ok r.time ≡ true
   pub source : r.source < count
-  pub kind : sameKind s.kind (kind_of r.ident) ≡ true
+  pub kind : same_kind s.kind (kind_of r.ident) ≡ true
   pub started : s.started ≡ true
   pub ranged : r.ranged ≡ true
   pub most : n ≤ most_of r.ident
   pub passes : filtered r.ident ≡ true → passes s.places r.ident ≡ true
-  pub fits : 14 + itemLength (record { offset = record { 0 = 0 }; network = 0; state = State.Byte 0; ident = r.ident; carries = r.carries }) n ≤ f
+  pub fits : 14 + item_length (record { offset = record { 0 = 0 }; network = 0; state = State.Byte 0; ident = r.ident; carries = r.carries }) n ≤ f
 
-pub cause-passed : (count f : ℕ) (s : Source) (r : Report) (n : ℕ) → reportCause count f s r n ≡ 0 → Passed count f s r n
-unfolding reportCause lateCause tooBig
-cause-passed count f s r n e =
-    let h = early-passed count s r n (lateCause f s r n) e in
-    let z = (early-0 count s r n (lateCause f s r n) e).6 in
-    let z1 = pick-0 (filtered r.ident && not (passes s.places r.ident)) 0 (pick (tooBig f r n) 8 0) z in
-    let z8 = pick-0 (tooBig f r n) 7 0 z1.1 in
+pub cause_passed : (count f : ℕ) (s : Source) (r : Report) (n : ℕ) → report_cause count f s r n ≡ 0 → Passed count f s r n
+unfolding report_cause late_cause too_big
+cause_passed count f s r n e =
+    let h = early_passed count s r n (late_cause f s r n) e in
+    let z = (early_0 count s r n (late_cause f s r n) e).6 in
+    let z1 = pick_0 (filtered r.ident && not (passes s.places r.ident)) 0 (pick (too_big f r n) 8 0) z in
+    let z8 = pick_0 (too_big f r n) 7 0 z1.1 in
     record {
       time = h.time;
       source = h.source;
@@ -197,38 +197,38 @@ cause-passed count f s r n e =
       ranged = h.ranged;
       most = h.most;
       passes = λ a. not-false (passes s.places r.ident) (rw a at z1.0);
-      fits = ltb-false f (14 + itemLength (record { offset = record { 0 = 0 }; network = 0; state = State.Byte 0; ident = r.ident; carries = r.carries }) n) z8.0;
+      fits = ltb-false f (14 + item_length (record { offset = record { 0 = 0 }; network = 0; state = State.Byte 0; ident = r.ident; carries = r.carries }) n) z8.0;
     }
 
 -- an error without a frame is refused with 7, 2, 4, 3 or 5: it has no payload, no filter is asked, and it fits every frame
-pub error-cause : (count f : ℕ) (s : Source) (source : ℕ) (t : Time) (channels bits : ℕ) → 22 ≤ f
-    → reportCause count f s (errorReport source t channels bits) 0
-    ≡ pick (not (timeOk t)) 7
+pub error_cause : (count f : ℕ) (s : Source) (source : ℕ) (t : Time) (channels bits : ℕ) → 22 ≤ f
+    → report_cause count f s (error_report source t channels bits) 0
+    ≡ pick (not (time_ok t)) 7
     (pick (leb count source) 2
-    (pick (not (sameKind s.kind Kind.FlexRay)) 4
+    (pick (not (same_kind s.kind Kind.FlexRay)) 4
     (pick (not s.started) 3
-    (pick (not (channelsOk channels && errorBits bits)) 5
+    (pick (not (channels_ok channels && error_bits bits)) 5
     0))))
-unfolding reportCause earlyCause lateCause tooBig errorReport
-error-cause count f s source t channels bits h = rw (le-ltb f 22 h)
+unfolding report_cause early_cause late_cause too_big error_report
+error_cause count f s source t channels bits h = rw (le-ltb f 22 h)
 
 -- what an accepted state update passed
 pub record Updates (count : ℕ) (s : Source) (u : Update) : Type 0 where
   pub source : u.source < count
-  pub kind : sameKind s.kind u.kind ≡ true
+  pub kind : same_kind s.kind u.kind ≡ true
   pub started : s.started ≡ true
   pub good : u.good ≡ true
 
-pub update-passed : (count : ℕ) (s : Source) (u : Update) → updateCause count s u ≡ 0 → Updates count s u
-unfolding updateCause
-update-passed count s u e =
-    let z2 = pick-0 (leb count u.source) 1 (pick (not (sameKind s.kind u.kind)) 4 (pick (not s.started) 3 (pick (not u.good) 5 0))) e in
-    let z4 = pick-0 (not (sameKind s.kind u.kind)) 3 (pick (not s.started) 3 (pick (not u.good) 5 0)) z2.1 in
-    let z3 = pick-0 (not s.started) 2 (pick (not u.good) 5 0) z4.1 in
-    let z5 = pick-0 (not u.good) 4 0 z3.1 in
+pub update_passed : (count : ℕ) (s : Source) (u : Update) → update_cause count s u ≡ 0 → Updates count s u
+unfolding update_cause
+update_passed count s u e =
+    let z2 = pick_0 (leb count u.source) 1 (pick (not (same_kind s.kind u.kind)) 4 (pick (not s.started) 3 (pick (not u.good) 5 0))) e in
+    let z4 = pick_0 (not (same_kind s.kind u.kind)) 3 (pick (not s.started) 3 (pick (not u.good) 5 0)) z2.1 in
+    let z3 = pick_0 (not s.started) 2 (pick (not u.good) 5 0) z4.1 in
+    let z5 = pick_0 (not u.good) 4 0 z3.1 in
     record {
       source = leb-false count u.source z2.0;
-      kind = not-false (sameKind s.kind u.kind) z4.0;
+      kind = not-false (same_kind s.kind u.kind) z4.0;
       started = not-false s.started z3.0;
       good = not-false u.good z5.0;
     }
@@ -236,36 +236,36 @@ update-passed count s u e =
 -- what an accepted filter passed
 pub record Adds (count : ℕ) (s : Source) (a : Addition) : Type 0 where
   pub source : a.source < count
-  pub kind : sameKind s.kind a.kind ≡ true
+  pub kind : same_kind s.kind a.kind ≡ true
   pub good : a.good ≡ true
-  pub room : freeAt s.places ≡ 8 → ⊥
+  pub room : free_at s.places ≡ 8 → ⊥
 
-pub add-passed : (count : ℕ) (s : Source) (a : Addition) → addCause count s a ≡ 0 → Adds count s a
-unfolding addCause
+pub add-passed : (count : ℕ) (s : Source) (a : Addition) → add_cause count s a ≡ 0 → Adds count s a
+unfolding add_cause
 add-passed count s a e =
-    let z2 = pick-0 (leb count a.source) 1 (pick (not (sameKind s.kind a.kind)) 4 (pick (not a.good) 9 (pick (eqb (freeAt s.places) 8) 10 0))) e in
-    let z4 = pick-0 (not (sameKind s.kind a.kind)) 3 (pick (not a.good) 9 (pick (eqb (freeAt s.places) 8) 10 0)) z2.1 in
-    let z9 = pick-0 (not a.good) 8 (pick (eqb (freeAt s.places) 8) 10 0) z4.1 in
-    let z10 = pick-0 (eqb (freeAt s.places) 8) 9 0 z9.1 in
+    let z2 = pick_0 (leb count a.source) 1 (pick (not (same_kind s.kind a.kind)) 4 (pick (not a.good) 9 (pick (eqb (free_at s.places) 8) 10 0))) e in
+    let z4 = pick_0 (not (same_kind s.kind a.kind)) 3 (pick (not a.good) 9 (pick (eqb (free_at s.places) 8) 10 0)) z2.1 in
+    let z9 = pick_0 (not a.good) 8 (pick (eqb (free_at s.places) 8) 10 0) z4.1 in
+    let z10 = pick_0 (eqb (free_at s.places) 8) 9 0 z9.1 in
     record {
       source = leb-false count a.source z2.0;
-      kind = not-false (sameKind s.kind a.kind) z4.0;
+      kind = not-false (same_kind s.kind a.kind) z4.0;
       good = not-false a.good z9.0;
-      room = eqb-false (freeAt s.places) 8 z10.0;
+      room = eqb-false (free_at s.places) 8 z10.0;
     }
 
 -- the lowest free place is within the list, or just past it
-pub free-most : (ps : List Place) → freeAt ps ≤ length ps
-free-most [] = omega arith
-free-most (p ∷ ps) = step (isFree p.filter) (freeAt ps) (length ps) (free-most ps)
+pub free_most : (ps : List Place) → free_at ps ≤ length ps
+free_most [] = omega arith
+free_most (p ∷ ps) = step (is_free p.filter) (free_at ps) (length ps) (free_most ps)
   where
     step : (b : Bool) (x n : ℕ) → x ≤ n → pick b 0 (suc x) ≤ suc n
     step true x n h = omega arith
     step false x n h = omega arith
 
 -- an accepted filter has one of eight places
-pub add-room : (count : ℕ) (s : Source) (a : Addition) → addCause count s a ≡ 0 → length s.places ≡ 8 → freeAt s.places < 8
+pub add-room : (count : ℕ) (s : Source) (a : Addition) → add_cause count s a ≡ 0 → length s.places ≡ 8 → free_at s.places < 8
 add-room count s a e h =
-    let k = free-most s.places in
-    let z : freeAt s.places ≡ 8 → ⊥ = (add-passed count s a e).room in
+    let k = free_most s.places in
+    let z : free_at s.places ≡ 8 → ⊥ = (add-passed count s a e).room in
     omega (arith, z)

@@ -2,7 +2,7 @@
 use Rattle.std.specs.Prelude.{ℕ, ◌%◌, Bool, true, false, ◌&&◌, leb, eqb}
 use Rattle.std.specs.Int.Bits.{bit_and}
 use Rattle.codec.specs.Choice.{pick}
-use Rattle.codec.specs.Ident.{networkType}
+use Rattle.codec.specs.Ident.{network_type}
 use Rattle.codec.specs.declared.ident.Kind.{Kind}
 use Rattle.codec.specs.declared.ident.Kind.TheVariants as Kind
 use Rattle.codec.specs.declared.ident.Ident.{Ident}
@@ -46,30 +46,30 @@ filtered (Ident.FlexRay channels slot cycle) = true
 filtered (Ident.FlexRayError channels) = false
 filtered (Ident.Bare k) = true
 
-abbrev pub isFree : Filter → Bool
-isFree Filter.Free = true
-isFree (Filter.Mask mask code) = false
-isFree (Filter.Range lower upper) = false
-isFree (Filter.Slots low high lowCycle highCycle repetition) = false
+abbrev pub is_free : Filter → Bool
+is_free Filter.Free = true
+is_free (Filter.Mask mask code) = false
+is_free (Filter.Range lower upper) = false
+is_free (Filter.Slots low high lowCycle highCycle repetition) = false
 
-unfoldable pub sameKind : Kind → Kind → Bool
-sameKind a b = eqb (networkType a) (networkType b)
+unfoldable pub same_kind : Kind → Kind → Bool
+same_kind a b = eqb (network_type a) (network_type b)
 
 -- a filter to be added, and whether it is in range (answer 9): any 32-bit mask, code and bounds for CAN
-unfoldable pub canMask : ℕ → ℕ → ℕ → Addition
-canMask source mask code = record { source = source; kind = Kind.Can; good = true; filter = Filter.Mask mask code }
+unfoldable pub can_mask : ℕ → ℕ → ℕ → Addition
+can_mask source mask code = record { source = source; kind = Kind.Can; good = true; filter = Filter.Mask mask code }
 
-unfoldable pub canRange : ℕ → ℕ → ℕ → Addition
-canRange source lower upper =
+unfoldable pub can_range : ℕ → ℕ → ℕ → Addition
+can_range source lower upper =
     record { source = source; kind = Kind.Can; good = leb lower upper; filter = Filter.Range lower upper }
 
 -- mask, code and bounds at most 63 for LIN
-unfoldable pub linMask : ℕ → ℕ → ℕ → Addition
-linMask source mask code =
+unfoldable pub lin_mask : ℕ → ℕ → ℕ → Addition
+lin_mask source mask code =
     record { source = source; kind = Kind.Lin; good = leb mask 63 && leb code 63; filter = Filter.Mask mask code }
 
-unfoldable pub linRange : ℕ → ℕ → ℕ → Addition
-linRange source lower upper =
+unfoldable pub lin_range : ℕ → ℕ → ℕ → Addition
+lin_range source lower upper =
     record { source = source; kind = Kind.Lin; good = leb lower upper && leb upper 63; filter = Filter.Range lower upper }
 
 -- slots 0 to 2,047, cycles 0 to 63, repetition 1 to 64; numbers in range are their own remainders

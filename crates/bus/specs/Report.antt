@@ -2,83 +2,83 @@
 use Rattle.std.specs.Prelude.{ℕ, ◌+◌, ◌%◌, Bool, true, false, not, ◌&&◌, ◌||◌, leb, ltb, eqb}
 use Rattle.std.specs.Int.Bits.{bit_and, bit_or}
 use Rattle.codec.specs.Choice.{pick}
-use Rattle.codec.specs.Time.{timeOk}
-use Rattle.codec.specs.Ident.{identOk, kind_of, most_of, channelsOk, flexrayRange}
-use Rattle.codec.specs.Item.{itemLength}
+use Rattle.codec.specs.Time.{time_ok}
+use Rattle.codec.specs.Ident.{ident_ok, kind_of, most_of, channels_ok, flexray_range}
+use Rattle.codec.specs.Item.{item_length}
 use Rattle.codec.specs.declared.time.Time.{Time}
 use Rattle.codec.specs.declared.ident.Ident.{Ident}
 use Rattle.codec.specs.declared.ident.Ident.TheVariants as Ident
 use Rattle.codec.specs.declared.item.State.TheVariants as State
 use Rattle.framer.specs.declared.offer.Offer.{Offer}
-use Rattle.bus.specs.Filter.{filtered, sameKind}
+use Rattle.bus.specs.Filter.{filtered, same_kind}
 use Rattle.bus.specs.Source.{due, passes}
 use Rattle.bus.specs.declared.source.Source.{Source}
 use Rattle.bus.specs.declared.report.Report.{Report}
 
 -- a CAN frame carries id and payload and has no frame-bound state (rule 5)
-unfoldable pub canReport : ℕ → Time → ℕ → Report
-canReport source t key = record {
+unfoldable pub can_report : ℕ → Time → ℕ → Report
+can_report source t key = record {
   source = source;
   time = t;
   ident = Ident.Can key;
   carries = true;
-  ranged = identOk (Ident.Can key);
+  ranged = ident_ok (Ident.Can key);
   kept = 255;
   raised = 0;
 }
 
 -- a LIN frame writes its four error bits, any mix; a number in range is its own remainder
-unfoldable pub linReport : ℕ → Time → ℕ → ℕ → Report
-linReport source t pid errors = record {
+unfoldable pub lin_report : ℕ → Time → ℕ → ℕ → Report
+lin_report source t pid errors = record {
   source = source;
   time = t;
   ident = Ident.Lin (pid % 256);
   carries = true;
-  ranged = identOk (Ident.Lin pid) && leb errors 15;
+  ranged = ident_ok (Ident.Lin pid) && leb errors 15;
   kept = 240;
   raised = errors % 256;
 }
 
 -- what reports of FlexRay have in common
-unfoldable pub flexrayReport : ℕ → Time → ℕ → ℕ → ℕ → Bool → ℕ → ℕ → Report
-flexrayReport source t channels slot cycle carries kept raised = record {
+unfoldable pub flexray_report : ℕ → Time → ℕ → ℕ → ℕ → Bool → ℕ → ℕ → Report
+flexray_report source t channels slot cycle carries kept raised = record {
   source = source;
   time = t;
   ident = Ident.FlexRay (channels % 256) (slot % 65536) (cycle % 256);
   carries = carries;
-  ranged = flexrayRange channels slot cycle;
+  ranged = flexray_range channels slot cycle;
   kept = kept;
   raised = raised;
 }
 
 -- a FlexRay frame carries id and payload and has no frame-bound state (rule 5)
-abbrev pub frameReport : ℕ → Time → ℕ → ℕ → ℕ → Report
-frameReport source t channels slot cycle = flexrayReport source t channels slot cycle true 255 0
+abbrev pub frame_report : ℕ → Time → ℕ → ℕ → ℕ → Report
+frame_report source t channels slot cycle = flexray_report source t channels slot cycle true 255 0
 
 -- a conflict carries id and state, and raises the Tx conflict bit, bit 0 (rules 4 and 5; SWS_Mirror_00094)
-abbrev pub conflictReport : ℕ → Time → ℕ → ℕ → ℕ → Report
-conflictReport source t channels slot cycle = flexrayReport source t channels slot cycle false 254 1
+abbrev pub conflict_report : ℕ → Time → ℕ → ℕ → ℕ → Report
+conflict_report source t channels slot cycle = flexray_report source t channels slot cycle false 254 1
 
 -- syntax error 8, content error 4, boundary violation 2, any mix and also none (SWS_Mirror_00091 to 00093)
-unfoldable pub errorBits : ℕ → Bool
-errorBits bits = leb bits 15 && eqb (bits % 2) 0
+unfoldable pub error_bits : ℕ → Bool
+error_bits bits = leb bits 15 && eqb (bits % 2) 0
 
 -- an error without a frame writes bits 3 to 1 and leaves bit 0; a number in range is its own remainder (rules 4 and 5;
 -- SWS_Mirror_00146, 00159)
-unfoldable pub errorReport : ℕ → Time → ℕ → ℕ → Report
-errorReport source t channels bits = record {
+unfoldable pub error_report : ℕ → Time → ℕ → ℕ → Report
+error_report source t channels bits = record {
   source = source;
   time = t;
   ident = Ident.FlexRayError (channels % 256);
   carries = false;
-  ranged = channelsOk channels && errorBits bits;
+  ranged = channels_ok channels && error_bits bits;
   kept = 241;
   raised = bits % 256;
 }
 
 -- the item, counted with a state byte, plus 14 exceeds F (answer 8)
-unfoldable pub tooBig : ℕ → Report → ℕ → Bool
-tooBig f r n = ltb f (14 + itemLength (record {
+unfoldable pub too_big : ℕ → Report → ℕ → Bool
+too_big f r n = ltb f (14 + item_length (record {
   offset = record { 0 = 0 };
   network = 0;
   state = State.Byte 0;
@@ -87,26 +87,26 @@ tooBig f r n = ltb f (14 + itemLength (record {
 }) n)
 
 -- reports: 7, 2, 4, 3, 5, 6, then what is left
-unfoldable pub earlyCause : ℕ → Source → Report → ℕ → ℕ → ℕ
-earlyCause count s r n rest =
-    pick (not (timeOk r.time)) 7
+unfoldable pub early_cause : ℕ → Source → Report → ℕ → ℕ → ℕ
+early_cause count s r n rest =
+    pick (not (time_ok r.time)) 7
     (pick (leb count r.source) 2
-    (pick (not (sameKind s.kind (kind_of r.ident))) 4
+    (pick (not (same_kind s.kind (kind_of r.ident))) 4
     (pick (not s.started) 3
     (pick (not r.ranged) 5
     (pick (ltb (most_of r.ident) n) 6
     rest)))))
 
 -- 1, 8
-unfoldable pub lateCause : ℕ → Source → Report → ℕ → ℕ
-lateCause f s r n =
+unfoldable pub late_cause : ℕ → Source → Report → ℕ → ℕ
+late_cause f s r n =
     pick (filtered r.ident && not (passes s.places r.ident)) 1
-    (pick (tooBig f r n) 8
+    (pick (too_big f r n) 8
     0)
 
 -- reports: 7, 2, 4, 3, 5, 6, 1, 8
-unfoldable pub reportCause : ℕ → ℕ → Source → Report → ℕ → ℕ
-reportCause count f s r n = earlyCause count s r n (lateCause f s r n)
+unfoldable pub report_cause : ℕ → ℕ → Source → Report → ℕ → ℕ
+report_cause count f s r n = early_cause count s r n (late_cause f s r n)
 
 -- the frame-bound bits are written, which makes the byte known (rule 4)
 unfoldable pub noted : Source → Report → Source
@@ -127,8 +127,8 @@ abbrev pub insists : Report → Bool
 insists r = ltb 0 r.raised || not r.carries
 
 -- what is to be mirrored (rules 4 and 5)
-unfoldable pub offerOf : Source → Report → Offer
-offerOf s r = record {
+unfoldable pub offer_of : Source → Report → Offer
+offer_of s r = record {
   network = s.network;
   ident = r.ident;
   carries = r.carries;
@@ -144,8 +144,8 @@ settled s r = record {
   started = s.started;
   state = bit_and (noted s r).state r.kept;
   known = (noted s r).known;
-  shown = pick (offerOf s r).due (noted s r).state s.shown;
-  told = s.told || (offerOf s r).due;
+  shown = pick (offer_of s r).due (noted s r).state s.shown;
+  told = s.told || (offer_of s r).due;
   heard = true;
   places = s.places;
 }

@@ -6,19 +6,19 @@ use Rattle.codec.specs.declared.ident.Kind.TheVariants as Kind
 use Rattle.codec.specs.declared.ident.Ident.{Ident}
 use Rattle.codec.specs.declared.ident.Ident.TheVariants as Ident
 use Rattle.framer.specs.declared.offer.Offer.{Offer}
-use Rattle.bus.specs.Filter.{matches, isFree, sameKind}
+use Rattle.bus.specs.Filter.{matches, is_free, same_kind}
 use Rattle.bus.specs.declared.filter.Filter.{Filter}
 use Rattle.bus.specs.declared.filter.Filter.TheVariants as Filter
 use Rattle.bus.specs.declared.filter.Place.{Place}
 use Rattle.bus.specs.declared.filter.Addition.{Addition}
 use Rattle.bus.specs.declared.source.Source.{Source}
 
-abbrev pub freePlace : Place
-freePlace = record { filter = Filter.Free }
+abbrev pub free_place : Place
+free_place = record { filter = Filter.Free }
 
 -- after setup: not started, no filters, the state byte 0, unknown and unshown
-unfoldable pub freshSource : Kind → ℕ → Source
-freshSource kind network = record {
+unfoldable pub fresh_source : Kind → ℕ → Source
+fresh_source kind network = record {
   kind = kind;
   network = network;
   started = false;
@@ -27,16 +27,16 @@ freshSource kind network = record {
   shown = 0;
   told = false;
   heard = false;
-  places = replicate 8 freePlace;
+  places = replicate 8 free_place;
 }
 
 -- offline and switch return to that
-unfoldable pub resetSource : Source → Source
-resetSource s = freshSource s.kind s.network
+unfoldable pub reset_source : Source → Source
+reset_source s = fresh_source s.kind s.network
 
 -- starting, also twice, makes the byte 0, unknown and unshown (rule 4)
-unfoldable pub startedSource : Source → Source
-startedSource s = record {
+unfoldable pub started_source : Source → Source
+started_source s = record {
   kind = s.kind;
   network = s.network;
   started = true;
@@ -49,8 +49,8 @@ startedSource s = record {
 }
 
 -- stopping keeps what is collected (rule 4)
-unfoldable pub stoppedSource : Source → Source
-stoppedSource s = record {
+unfoldable pub stopped_source : Source → Source
+stopped_source s = record {
   kind = s.kind;
   network = s.network;
   started = false;
@@ -68,22 +68,22 @@ passes [] id = false
 passes (p ∷ ps) id = matches p.filter id || passes ps id
 
 -- the lowest free place, or how many places there are
-abbrev pub freeAt : List Place → ℕ
-freeAt [] = 0
-freeAt (p ∷ ps) = pick (isFree p.filter) 0 (suc (freeAt ps))
+abbrev pub free_at : List Place → ℕ
+free_at [] = 0
+free_at (p ∷ ps) = pick (is_free p.filter) 0 (suc (free_at ps))
 
 -- filter adding: 2, 4, 9, 10
-unfoldable pub addCause : ℕ → Source → Addition → ℕ
-addCause count s a =
+unfoldable pub add_cause : ℕ → Source → Addition → ℕ
+add_cause count s a =
     pick (leb count a.source) 2
-    (pick (not (sameKind s.kind a.kind)) 4
+    (pick (not (same_kind s.kind a.kind)) 4
     (pick (not a.good) 9
-    (pick (eqb (freeAt s.places) 8) 10
+    (pick (eqb (free_at s.places) 8) 10
     0)))
 
 -- the same source with other places
-abbrev pub withPlaces : Source → List Place → Source
-withPlaces s ps = record {
+abbrev pub with_places : Source → List Place → Source
+with_places s ps = record {
   kind = s.kind;
   network = s.network;
   started = s.started;
@@ -96,28 +96,28 @@ withPlaces s ps = record {
 }
 
 -- adding uses the lowest free place
-unfoldable pub addedFilter : Source → Filter → Source
-addedFilter s f = pick (ltb (freeAt s.places) 8) (withPlaces s (set s.places (freeAt s.places) (record { filter = f }))) s
+unfoldable pub added_filter : Source → Filter → Source
+added_filter s f = pick (ltb (free_at s.places) 8) (with_places s (set s.places (free_at s.places) (record { filter = f }))) s
 
 -- removing: 11, no such filter
-unfoldable pub removeCause : Source → ℕ → ℕ
-removeCause s number = pick (leb 8 number) 11 (pick (isFree (get_or s.places number freePlace).filter) 11 0)
+unfoldable pub remove_cause : Source → ℕ → ℕ
+remove_cause s number = pick (leb 8 number) 11 (pick (is_free (get_or s.places number free_place).filter) 11 0)
 
 -- a removed place is free again
-unfoldable pub removedFilter : Source → ℕ → Source
-removedFilter s number = pick (ltb number 8) (withPlaces s (set s.places number freePlace)) s
+unfoldable pub removed_filter : Source → ℕ → Source
+removed_filter s number = pick (ltb number 8) (with_places s (set s.places number free_place)) s
 
 -- the state is known, and was never shown or differs from the last shown (rules 4 and 6)
 unfoldable pub due : Source → Bool
 due s = s.known && not (s.told && eqb s.shown s.state)
 
 -- a tick shows it for a started source from which no report was accepted since the last tick (rule 6)
-unfoldable pub tickDue : Source → Bool
-tickDue s = s.started && due s && not s.heard
+unfoldable pub tick_due : Source → Bool
+tick_due s = s.started && due s && not s.heard
 
 -- a state-only item (rule 6)
-unfoldable pub stateOffer : Source → Offer
-stateOffer s = record { network = s.network; ident = Ident.Bare s.kind; carries = false; state = s.state; due = true }
+unfoldable pub state_offer : Source → Offer
+state_offer s = record { network = s.network; ident = Ident.Bare s.kind; carries = false; state = s.state; due = true }
 
 -- what a tick leaves of the source
 unfoldable pub calmed : Source → Source
@@ -127,8 +127,8 @@ calmed s = record {
   started = s.started;
   state = s.state;
   known = s.known;
-  shown = pick (tickDue s) s.state s.shown;
-  told = s.told || tickDue s;
+  shown = pick (tick_due s) s.state s.shown;
+  told = s.told || tick_due s;
   heard = false;
   places = s.places;
 }

@@ -3,34 +3,34 @@ use Rattle.std.specs.Prelude.{ℕ, ◌+◌, ◌*◌, ◌/◌, ◌%◌, min, Bool
 use Rattle.codec.specs.Choice.{pick, bit}
 use Rattle.codec.specs.declared.ident.Kind.{Kind}
 use Rattle.codec.specs.declared.ident.Kind.TheVariants as Kind
-use Rattle.bus.specs.Filter.{sameKind}
+use Rattle.bus.specs.Filter.{same_kind}
 use Rattle.bus.specs.declared.source.Source.{Source}
 use Rattle.bus.specs.declared.update.Update.{Update}
 
 -- the Tx error counter divided by 8, cut to 15 (SWS_Mirror_00083)
-unfoldable pub counterBits : ℕ → ℕ
-counterBits counter = min (counter / 8) 15
+unfoldable pub counter_bits : ℕ → ℕ
+counter_bits counter = min (counter / 8) 15
 
 -- bit 6 online, bit 5 error-passive, bit 4 bus-off, bits 3 to 0 the counter; offline makes all of them zero
-unfoldable pub canByte : Bool → Bool → Bool → ℕ → ℕ
-canByte online passive busOff counter = pick online (64 + bit passive * 32 + bit busOff * 16 + counterBits counter) 0
+unfoldable pub can_byte : Bool → Bool → Bool → ℕ → ℕ
+can_byte online passive busOff counter = pick online (64 + bit passive * 32 + bit busOff * 16 + counter_bits counter) 0
 
 -- error-passive with bus-off, and a counter over 255, are out of range (answer 5)
-unfoldable pub canUpdate : ℕ → Bool → Bool → Bool → ℕ → Update
-canUpdate source online passive busOff counter = record {
+unfoldable pub can_update : ℕ → Bool → Bool → Bool → ℕ → Update
+can_update source online passive busOff counter = record {
   source = source;
   kind = Kind.Can;
   good = not (passive && busOff) && leb counter 255;
-  state = canByte online passive busOff counter;
+  state = can_byte online passive busOff counter;
 }
 
 -- online only
-unfoldable pub linUpdate : ℕ → Bool → Update
-linUpdate source online = record { source = source; kind = Kind.Lin; good = true; state = bit online * 64 }
+unfoldable pub lin_update : ℕ → Bool → Update
+lin_update source online = record { source = source; kind = Kind.Lin; good = true; state = bit online * 64 }
 
 -- online and bits 5 and 4; the frame-bound bits, 3 to 0, are clear; bits in range are their own remainder
-unfoldable pub flexrayUpdate : ℕ → Bool → ℕ → Update
-flexrayUpdate source online bits = record {
+unfoldable pub flexray_update : ℕ → Bool → ℕ → Update
+flexray_update source online bits = record {
   source = source;
   kind = Kind.FlexRay;
   good = leb bits 63 && eqb (bits % 16) 0;
@@ -38,10 +38,10 @@ flexrayUpdate source online bits = record {
 }
 
 -- state updates: 2, 4, 3, 5
-unfoldable pub updateCause : ℕ → Source → Update → ℕ
-updateCause count s u =
+unfoldable pub update_cause : ℕ → Source → Update → ℕ
+update_cause count s u =
     pick (leb count u.source) 2
-    (pick (not (sameKind s.kind u.kind)) 4
+    (pick (not (same_kind s.kind u.kind)) 4
     (pick (not s.started) 3
     (pick (not u.good) 5
     0)))

@@ -2,7 +2,7 @@
 ghost use Rattle.std.specs.Prelude.{◌≡◌, false, ◌&&◌, ℕ, ◌%◌, leb};
 ghost use Rattle.codec.specs.declared.ident.Ident.TheVariants as Ident;
 ghost use Rattle.bus.specs.Source.{passes};
-ghost use Rattle.bus.specs.Filter.{keyed, slotted, matches, filtered, isFree, sameKind, canMask, canRange, linMask, linRange, slots_of, cycled};
+ghost use Rattle.bus.specs.Filter.{keyed, slotted, matches, filtered, is_free, same_kind, can_mask, can_range, lin_mask, lin_range, slots_of, cycled};
 
 use codec::ident::{Ident, Kind};
 
@@ -198,7 +198,7 @@ pub fn filtered(id: Ident) -> bool
 }
 
 pub fn is_free(f: Filter) -> bool
-    ensures { result ≡ isFree f }
+    ensures { result ≡ is_free f }
 {
     match f {
         Filter::Free => true,
@@ -215,13 +215,13 @@ pub fn is_free(f: Filter) -> bool
 }
 
 pub fn same_kind(a: Kind, b: Kind) -> bool
-    ensures { result ≡ sameKind a b }
+    ensures { result ≡ same_kind a b }
 {
     codec::ident::network_type(a) == codec::ident::network_type(b)
 }
 
 pub fn can_mask(source: u64, mask: u32, code: u32) -> Addition
-    ensures { result ≡ canMask source mask code }
+    ensures { result ≡ can_mask source mask code }
 {
     Addition {
         source,
@@ -232,7 +232,7 @@ pub fn can_mask(source: u64, mask: u32, code: u32) -> Addition
 }
 
 pub fn can_range(source: u64, lower: u32, upper: u32) -> Addition
-    ensures { result ≡ canRange source lower upper }
+    ensures { result ≡ can_range source lower upper }
 {
     Addition {
         source,
@@ -243,7 +243,7 @@ pub fn can_range(source: u64, lower: u32, upper: u32) -> Addition
 }
 
 pub fn lin_mask(source: u64, mask: u32, code: u32) -> Addition
-    ensures { result ≡ linMask source mask code }
+    ensures { result ≡ lin_mask source mask code }
 {
     Addition {
         source,
@@ -254,7 +254,7 @@ pub fn lin_mask(source: u64, mask: u32, code: u32) -> Addition
 }
 
 pub fn lin_range(source: u64, lower: u32, upper: u32) -> Addition
-    ensures { result ≡ linRange source lower upper }
+    ensures { result ≡ lin_range source lower upper }
 {
     Addition {
         source,

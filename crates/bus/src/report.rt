@@ -1,8 +1,8 @@
 // Reports of the three buses as one kind of thing: whether one is refused, what it hands over to be mirrored,
 // and what it leaves of its source.
 ghost use Rattle.std.specs.Prelude.{◌≡◌, true, false};
-ghost use Rattle.codec.specs.Ident.{flexrayRange};
-ghost use Rattle.bus.specs.Report.{canReport, linReport, flexrayReport, frameReport, conflictReport, errorBits, errorReport, tooBig, earlyCause, lateCause, reportCause, noted, insists, offerOf, settled};
+ghost use Rattle.codec.specs.Ident.{flexray_range};
+ghost use Rattle.bus.specs.Report.{can_report, lin_report, flexray_report, frame_report, conflict_report, error_bits, error_report, too_big, early_cause, late_cause, report_cause, noted, insists, offer_of, settled};
 
 use crate::source::Source;
 use codec::ident::Ident;
@@ -24,13 +24,13 @@ pub struct Report {
 }
 
 fn flexray_ok(channels: u32, slot: u32, cycle: u32) -> bool
-    ensures { result ≡ flexrayRange channels slot cycle }
+    ensures { result ≡ flexray_range channels slot cycle }
 {
     (1 <= channels) & (channels <= 3) & (1 <= slot) & (slot <= 2047) & (cycle <= 63)
 }
 
 pub fn can(source: u64, time: Time, key: u32) -> Report
-    ensures { result ≡ canReport source time key }
+    ensures { result ≡ can_report source time key }
 {
     let ident = Ident::Can(key);
     Report {
@@ -45,7 +45,7 @@ pub fn can(source: u64, time: Time, key: u32) -> Report
 }
 
 pub fn lin(source: u64, time: Time, pid: u32, errors: u32) -> Report
-    ensures { result ≡ linReport source time pid errors }
+    ensures { result ≡ lin_report source time pid errors }
 {
     Report {
         source,
@@ -69,7 +69,7 @@ fn flexray_report(
     kept: u8,
     raised: u8,
 ) -> Report
-    ensures { result ≡ flexrayReport source time channels slot cycle carries kept raised }
+    ensures { result ≡ flexray_report source time channels slot cycle carries kept raised }
 {
     Report {
         source,
@@ -87,27 +87,27 @@ fn flexray_report(
 }
 
 pub fn flexray(source: u64, time: Time, channels: u32, slot: u32, cycle: u32) -> Report
-    ensures { result ≡ frameReport source time channels slot cycle }
+    ensures { result ≡ frame_report source time channels slot cycle }
 {
     flexray_report(source, time, channels, slot, cycle, true, 255, 0)
 }
 
 pub fn conflict(source: u64, time: Time, channels: u32, slot: u32, cycle: u32) -> Report
-    ensures { result ≡ conflictReport source time channels slot cycle }
+    ensures { result ≡ conflict_report source time channels slot cycle }
 {
     flexray_report(source, time, channels, slot, cycle, false, 254, 1)
 }
 
 // Bits 3 to 1: syntax error, content error, boundary violation.
 fn error_bits(bits: u32) -> bool
-    ensures { result ≡ errorBits bits }
+    ensures { result ≡ error_bits bits }
 {
     (bits <= 15) & (bits & 1 == 0)
 }
 
 // An error on channels of FlexRay that belongs to no frame.
 pub fn error(source: u64, time: Time, channels: u32, bits: u32) -> Report
-    ensures { result ≡ errorReport source time channels bits }
+    ensures { result ≡ error_report source time channels bits }
 {
     Report {
         source,
@@ -122,7 +122,7 @@ pub fn error(source: u64, time: Time, channels: u32, bits: u32) -> Report
 
 // The item counted with a state byte, after a header, exceeds a frame of f bytes.
 fn too_big(f: usize, r: Report, n: u8) -> bool
-    ensures { result ≡ tooBig f r n }
+    ensures { result ≡ too_big f r n }
 {
     let ident = r.ident;
     let item = Item {
@@ -137,7 +137,7 @@ fn too_big(f: usize, r: Report, n: u8) -> bool
 
 // 7, 2, 4, 3, 5, 6
 fn early_cause(count: usize, s: Source, r: Report, n: usize) -> u8
-    ensures { result ≡ earlyCause count s r n 0 }
+    ensures { result ≡ early_cause count s r n 0 }
 {
     let ident = r.ident;
     let own = s.kind;
@@ -155,7 +155,7 @@ fn early_cause(count: usize, s: Source, r: Report, n: usize) -> u8
 
 // 1, 8
 fn late_cause(f: usize, s: Source, r: Report, n: u8) -> u8
-    ensures { result ≡ lateCause f s r n }
+    ensures { result ≡ late_cause f s r n }
 {
     let ident = r.ident;
     let big = crate::source::first(too_big(f, r, n), 8, 0);
@@ -164,7 +164,7 @@ fn late_cause(f: usize, s: Source, r: Report, n: u8) -> u8
 
 // The first cause of refusing the report, with a payload of n bytes, to a frame of at most f bytes, or 0.
 pub fn report_cause(count: usize, f: usize, s: Source, r: Report, n: usize) -> u8
-    ensures { result ≡ reportCause count f s r n }
+    ensures { result ≡ report_cause count f s r n }
 {
     let early = early_cause(count, s, r, n);
     if early != 0 {
@@ -191,7 +191,7 @@ fn insists(r: Report) -> bool
 }
 
 pub fn offer(s: Source, r: Report) -> Offer
-    ensures { result ≡ offerOf s r }
+    ensures { result ≡ offer_of s r }
 {
     let n = note(s, r);
     let ident = r.ident;

@@ -2,7 +2,7 @@
 ghost use Rattle.std.specs.Prelude.{◌≡◌};
 ghost use Rattle.codec.specs.Choice.{pick};
 ghost use Rattle.codec.specs.Number.{Below};
-ghost use Rattle.bus.specs.Source.{freshSource, resetSource, startedSource, stoppedSource, passes, freeAt, addCause, addedFilter, removeCause, removedFilter, due, tickDue, stateOffer, calmed};
+ghost use Rattle.bus.specs.Source.{fresh_source, reset_source, started_source, stopped_source, passes, free_at, add_cause, added_filter, remove_cause, removed_filter, due, tick_due, state_offer, calmed};
 
 use crate::filter::{Addition, Filter, Place};
 use codec::ident::{Ident, Kind};
@@ -25,7 +25,7 @@ pub struct Source {
 }
 
 pub fn fresh(kind: Kind, network: u8) -> Source
-    ensures { result ≡ freshSource kind network }
+    ensures { result ≡ fresh_source kind network }
 {
     let place = Place {
         filter: Filter::Free,
@@ -52,14 +52,14 @@ pub fn first(bad: bool, answer: u8, rest: u8) -> u8
 
 impl Source {
     pub fn reset(self) -> Source
-        ensures { result ≡ resetSource self }
+        ensures { result ≡ reset_source self }
     {
         let kind = self.kind;
         fresh(kind, self.network)
     }
 
     pub fn start(mut self) -> Source
-        ensures { result ≡ startedSource self }
+        ensures { result ≡ started_source self }
     {
         self.started = true;
         self.state = 0;
@@ -70,7 +70,7 @@ impl Source {
     }
 
     pub fn stop(mut self) -> Source
-        ensures { result ≡ stoppedSource self }
+        ensures { result ≡ stopped_source self }
     {
         self.started = false;
         self
@@ -98,7 +98,7 @@ impl Source {
 
     // The lowest free place, or 8.
     pub fn free_place(self) -> usize
-        ensures { Below (freeAt self.places) 9 result }
+        ensures { Below (free_at self.places) 9 result }
     {
         let mut i: usize = 0;
         while i < 8 {
@@ -114,7 +114,7 @@ impl Source {
 
     // 2, 4, 9, 10
     pub fn add_cause(self, count: usize, a: Addition) -> u8
-        ensures { result ≡ addCause count self a }
+        ensures { result ≡ add_cause count self a }
     {
         let own = self.kind;
         let other = a.kind;
@@ -126,7 +126,7 @@ impl Source {
 
     // The filter goes to the lowest free place, if there is one.
     pub fn add_filter(mut self, filter: Filter) -> Source
-        ensures { result ≡ addedFilter self filter }
+        ensures { result ≡ added_filter self filter }
     {
         let k = self.free_place();
         if k < 8 {
@@ -138,7 +138,7 @@ impl Source {
 
     // 11
     pub fn remove_cause(self, number: u64) -> u8
-        ensures { result ≡ removeCause self number }
+        ensures { result ≡ remove_cause self number }
     {
         if 8 <= number {
             return 11;
@@ -149,7 +149,7 @@ impl Source {
     }
 
     pub fn remove_filter(mut self, number: u64) -> Source
-        ensures { result ≡ removedFilter self number }
+        ensures { result ≡ removed_filter self number }
     {
         if number < 8 {
             self.places[number as usize] = Place {
@@ -168,13 +168,13 @@ impl Source {
     }
 
     pub fn tick_due(self) -> bool
-        ensures { result ≡ tickDue self }
+        ensures { result ≡ tick_due self }
     {
         self.started & self.due() & !self.heard
     }
 
     pub fn state_offer(self) -> Offer
-        ensures { result ≡ stateOffer self }
+        ensures { result ≡ state_offer self }
     {
         let kind = self.kind;
         Offer {

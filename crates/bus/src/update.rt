@@ -1,6 +1,6 @@
 // State updates of the three buses as one kind of thing.
 ghost use Rattle.std.specs.Prelude.{◌≡◌};
-ghost use Rattle.bus.specs.Update.{counterBits, canByte, canUpdate, linUpdate, flexrayUpdate, updateCause, updated};
+ghost use Rattle.bus.specs.Update.{counter_bits, can_byte, can_update, lin_update, flexray_update, update_cause, updated};
 ghost use Rattle.codec.specs.Number.{Below};
 
 use crate::source::Source;
@@ -17,14 +17,14 @@ pub struct Update {
 
 // The Tx error counter in four bits, which cannot hold 31.
 fn counter_bits(counter: u32) -> u8
-    ensures { Below (counterBits counter) 16 result }
+    ensures { Below (counter_bits counter) 16 result }
 {
     let eighth = counter / 8;
     if eighth <= 15 { eighth as u8 } else { 15 }
 }
 
 fn can_byte(online: bool, passive: bool, bus_off: bool, counter: u32) -> u8
-    ensures { result ≡ canByte online passive bus_off counter }
+    ensures { result ≡ can_byte online passive bus_off counter }
 {
     if !online {
         return 0;
@@ -33,7 +33,7 @@ fn can_byte(online: bool, passive: bool, bus_off: bool, counter: u32) -> u8
 }
 
 pub fn can(source: u64, online: bool, passive: bool, bus_off: bool, counter: u32) -> Update
-    ensures { result ≡ canUpdate source online passive bus_off counter }
+    ensures { result ≡ can_update source online passive bus_off counter }
 {
     Update {
         source,
@@ -44,7 +44,7 @@ pub fn can(source: u64, online: bool, passive: bool, bus_off: bool, counter: u32
 }
 
 pub fn lin(source: u64, online: bool) -> Update
-    ensures { result ≡ linUpdate source online }
+    ensures { result ≡ lin_update source online }
 {
     Update {
         source,
@@ -56,7 +56,7 @@ pub fn lin(source: u64, online: bool) -> Update
 
 // The four low bits are bound to reports: three to errors without a frame, the lowest to a conflict.
 pub fn flexray(source: u64, online: bool, bits: u32) -> Update
-    ensures { result ≡ flexrayUpdate source online bits }
+    ensures { result ≡ flexray_update source online bits }
 {
     Update {
         source,
@@ -68,7 +68,7 @@ pub fn flexray(source: u64, online: bool, bits: u32) -> Update
 
 // 2, 4, 3, 5
 pub fn update_cause(count: usize, s: Source, u: Update) -> u8
-    ensures { result ≡ updateCause count s u }
+    ensures { result ≡ update_cause count s u }
 {
     let own = s.kind;
     let other = u.kind;

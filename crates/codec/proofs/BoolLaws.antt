@@ -2,9 +2,9 @@
 use mathlib.Core.Path.{◌≡◌, refl}
 use mathlib.Core.Bool.{Bool, true, false, ◌&&◌, ◌||◌}
 
-pub and-false : (t : Bool) → t && false ≡ false
-and-false true = refl
-and-false false = refl
+pub and_false : (t : Bool) → t && false ≡ false
+and_false true = refl
+and_false false = refl
 
 pub and_l : (a b : Bool) → a && b ≡ true → a ≡ true
 and_l true b e = refl
@@ -14,10 +14,10 @@ pub and_r : (a b : Bool) → a && b ≡ true → b ≡ true
 and_r true b e = e
 and_r false b e = cc
 
-pub or-false : (t : Bool) → t || false ≡ t
-or-false true = refl
-or-false false = refl
+pub or_false : (t : Bool) → t || false ≡ t
+or_false true = refl
+or_false false = refl
 
-pub or-true : (t : Bool) → t || true ≡ true
-or-true true = refl
-or-true false = refl
+pub or_true : (t : Bool) → t || true ≡ true
+or_true true = refl
+or_true false = refl

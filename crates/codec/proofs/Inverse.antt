@@ -8,11 +8,11 @@ use lib.ListN.{length, take, get_or}
 use lib.Dec.{ltb, leb, eqb}
 use borrow.Author.Tests.{ltb-false, leb-true, eqb-true}
 use Rattle.codec.specs.Choice.{bit}
-use Rattle.codec.specs.Number.{word, Bytes, get8Of, get16Of}
-use Rattle.codec.specs.Ident.{networkType, kind_of, identBit, most_of}
-use Rattle.codec.specs.Item.{stateBit, setOf, setOk, aloneIn, encode, itemOk}
-use Rattle.codec.specs.Field.{readFlags, readState, readIdent, readLoad, readItem, bytes_at}
-use Rattle.codec.specs.Header.{headerBytes, headerIn, readHeader}
+use Rattle.codec.specs.Number.{word, Bytes, get8_of, get16_of}
+use Rattle.codec.specs.Ident.{network_type, kind_of, ident_bit, most_of}
+use Rattle.codec.specs.Item.{state_bit, set_of, set_ok, alone_in, encode, item_ok}
+use Rattle.codec.specs.Field.{read_flags, read_state, read_ident, read_load, read_item, bytes_at}
+use Rattle.codec.specs.Header.{header_bytes, header_in, read_header}
 use Rattle.codec.specs.Layout.{Valid}
 use Rattle.codec.specs.declared.ident.Ident.{Ident}
 use Rattle.codec.specs.declared.item.State.{State}
@@ -22,10 +22,10 @@ use Rattle.codec.specs.declared.field.ItemRead.TheVariants as ItemRead
 use Rattle.codec.specs.declared.header.Header.{Header}
 use Rattle.codec.specs.declared.header.HeaderRead.{HeaderRead}
 use Rattle.codec.specs.declared.header.HeaderRead.TheVariants as HeaderRead
-use Rattle.codec.proofs.Stands.{Stands, join, part-back, bytes-at, word_stands, word_below}
-use Rattle.codec.proofs.RoundTrip.{payloadPlace}
-use Rattle.codec.proofs.Opened.{never, chosen, passed, in8, in16, inFlags, inState, inIdent, inLoad}
-use Rattle.codec.proofs.FieldInverse.{both, byte-stands, took8, room16, took16, part_bytes, flags-got, state-got, ident-got, load-got}
+use Rattle.codec.proofs.Stands.{Stands, join, part_back, bytes-at, word_stands, word_below}
+use Rattle.codec.proofs.RoundTrip.{payload_place}
+use Rattle.codec.proofs.Opened.{never, chosen, passed, in8, in16, in_flags, in_state, in_ident, in_load}
+use Rattle.codec.proofs.FieldInverse.{both, byte_stands, took8, room16, took16, part_bytes, flags_got, state_got, ident_got, load_got}
 
 -- the flags of a set that may be are the set again
 either : {G : Type 0} (a b : Bool) → (a || b) ≡ true → (a ≡ true → G) → (b ≡ true → G) → G
@@ -35,8 +35,8 @@ either false b e f g = g e
 abbrev flags : ℕ → ℕ
 flags set = bit (eqb (set / 4 % 2) 1) * 4 + bit (eqb (set / 2 % 2) 1) * 2 + bit (eqb (set % 2) 1)
 
-flags-are : (set : ℕ) → setOk set ≡ true → flags set ≡ set
-flags-are set e =
+flags_are : (set : ℕ) → set_ok set ≡ true → flags set ≡ set
+flags_are set e =
     either (eqb set 3 || eqb set 7 || eqb set 6) (eqb set 4) e (λ e1.
     either (eqb set 3 || eqb set 7) (eqb set 6) e1 (λ e2.
     either (eqb set 3) (eqb set 7) e2 (is 3 refl) (is 7 refl)) (is 6 refl)) (is 4 refl)
@@ -44,9 +44,9 @@ flags-are set e =
     is : (n : ℕ) → flags n ≡ n → eqb set n ≡ true → flags set ≡ set
     is n k f = rw (eqb-true set n f) k
 
-set_is : (set : ℕ) (state : State) (ident : Ident) → setOk set ≡ true → stateBit state ≡ bit (eqb (set / 4 % 2) 1) → identBit ident ≡ bit (eqb (set / 2 % 2) 1)
-    → setOf state ident (eqb (set % 2) 1) ≡ set
-set_is set state ident e p q = rw (p, q) (flags-are set e)
+set_is : (set : ℕ) (state : State) (ident : Ident) → set_ok set ≡ true → state_bit state ≡ bit (eqb (set / 4 % 2) 1) → ident_bit ident ≡ bit (eqb (set / 2 % 2) 1)
+    → set_of state ident (eqb (set % 2) 1) ≡ set
+set_is set state ident e p q = rw (p, q) (flags_are set e)
 
 -- an item that was read, from any numbers; from bytes, its own bytes stand there
 record ItemGot (s : List ℕ) (at : ℕ) (it : Item) (start len next : ℕ) : Type 0 where
@@ -56,27 +56,27 @@ record ItemGot (s : List ℕ) (at : ℕ) (it : Item) (start len next : ℕ) : Ty
   pub stands : Bytes s → Stands s at (encode it (bytes_at s start len))
   pub valid : Bytes s → Valid (record { item = it; payload = bytes_at s start len })
   pub size : length (bytes_at s start len) ≡ len
-  pub place : start ≡ payloadPlace at it
+  pub place : start ≡ payload_place at it
 
-item-got : (s : List ℕ) (at : ℕ) {it : Item} {start len next : ℕ} → readItem s at ≡ ItemRead.Got it start len next → ItemGot s at it start len next
-unfolding readItem encode itemOk
-item-got s at {it} {start} {len} {next} eq =
-    in16 (get16Of s at) _ _ eq (λ z. never (cc)) (λ ticks a p1 e1.
-    inFlags (readFlags s a) _ e1 (λ y z. never (cc)) (λ kind set b p2 e2.
-    in8 (get8Of s b) _ _ e2 (λ z. never (cc)) (λ network d p3 e3.
-    inState (readState s d kind (eqb (set / 4 % 2) 1)) _ e3 (λ y z. never (cc)) (λ state e p4 e4.
-    inIdent (readIdent s e kind (eqb (set / 2 % 2) 1) (aloneIn set)) _ e4 (λ y z. never (cc)) (λ ident f p5 e5.
-    inLoad (readLoad s f (most_of ident) (eqb (set % 2) 1)) _ e5 (λ y z. never (cc)) (λ start' len' next' p6 e6.
+item_got : (s : List ℕ) (at : ℕ) {it : Item} {start len next : ℕ} → read_item s at ≡ ItemRead.Got it start len next → ItemGot s at it start len next
+unfolding read_item encode item_ok
+item_got s at {it} {start} {len} {next} eq =
+    in16 (get16_of s at) _ _ eq (λ z. never (cc)) (λ ticks a p1 e1.
+    in_flags (read_flags s a) _ e1 (λ y z. never (cc)) (λ kind set b p2 e2.
+    in8 (get8_of s b) _ _ e2 (λ z. never (cc)) (λ network d p3 e3.
+    in_state (read_state s d kind (eqb (set / 4 % 2) 1)) _ e3 (λ y z. never (cc)) (λ state e p4 e4.
+    in_ident (read_ident s e kind (eqb (set / 2 % 2) 1) (alone_in set)) _ e4 (λ y z. never (cc)) (λ ident f p5 e5.
+    in_load (read_load s f (most_of ident) (eqb (set % 2) 1)) _ e5 (λ y z. never (cc)) (λ start' len' next' p6 e6.
     let h : at + 2 ≤ length s = room16 s at p1 in
     let t1 = took16 s at p1 in
-    let t2 = flags-got s a p2 in
+    let t2 = flags_got s a p2 in
     let t3 = took8 s b p3 in
-    let t4 = state-got s d p4 in
-    let t5 = ident-got s e p5 in
-    let t6 = load-got s f p6 in
+    let t4 = state_got s d p4 in
+    let t5 = ident_got s e p5 in
+    let t6 = load_got s f p6 in
     let c : Bool = eqb (set % 2) 1 in
-    let g : setOf state ident c ≡ set = set_is set state ident t2.ok t4.here t5.here in
-    let m : setOf state ident c * 32 + networkType (kind_of ident) ≡ set * 32 + networkType kind = rw (g, t5.same) in
+    let g : set_of state ident c ≡ set = set_is set state ident t2.ok t4.here t5.here in
+    let m : set_of state ident c * 32 + network_type (kind_of ident) ≡ set * 32 + network_type kind = rw (g, t5.same) in
     let all = both (both (both (both t1 (both (rw (← m) at t2.took) t3)) t4.took) t5.took) t6.took in
     let i : ◌≡◌ {A = Item} (record { offset = record { 0 = ticks }; network = network; state = state; ident = ident; carries = c }) it = cc in
     let x : start' ≡ start = cc in
@@ -99,8 +99,8 @@ item-got s at {it} {start} {len} {next} eq =
       place = omega arith;
     }))))))
 
-pub read-room : (s : List ℕ) (at : ℕ) {it : Item} {start len next : ℕ} → readItem s at ≡ ItemRead.Got it start len next → (at + 4 ≤ next) × (next ≤ length s)
-read-room s at e = let g = item-got s at e in (g.begins, g.room)
+pub read_room : (s : List ℕ) (at : ℕ) {it : Item} {start len next : ℕ} → read_item s at ≡ ItemRead.Got it start len next → (at + 4 ≤ next) × (next ≤ length s)
+read_room s at e = let g = item_got s at e in (g.begins, g.room)
 
 -- an item that was read from bytes is valid, and its bytes are those that were read
 pub record Forth (s : List ℕ) (at : ℕ) (it : Item) (start len next : ℕ) : Type 0 where
@@ -108,40 +108,40 @@ pub record Forth (s : List ℕ) (at : ℕ) (it : Item) (start len next : ℕ) : 
   pub ends : next ≡ at + length (encode it (bytes_at s start len))
   pub valid : Valid (record { item = it; payload = bytes_at s start len })
   pub size : length (bytes_at s start len) ≡ len
-  pub place : start ≡ payloadPlace at it
+  pub place : start ≡ payload_place at it
 
-pub item-forth : (s : List ℕ) (at : ℕ) {it : Item} {start len next : ℕ} → Bytes s → readItem s at ≡ ItemRead.Got it start len next
+pub item_forth : (s : List ℕ) (at : ℕ) {it : Item} {start len next : ℕ} → Bytes s → read_item s at ≡ ItemRead.Got it start len next
     → Forth s at it start len next
-item-forth s at b e =
-    let g = item-got s at e in
+item_forth s at b e =
+    let g = item_got s at e in
     record { stands = g.stands b; ends = g.ends; valid = g.valid b; size = g.size; place = g.place }
 
 -- a header that was read from bytes is within its widths, and its bytes are the first 14
 pub record HeaderForth (s : List ℕ) (h : Header) : Type 0 where
-  pub bytes : take 14 s ≡ headerBytes h
+  pub bytes : take 14 s ≡ header_bytes h
   pub size : length s ≡ 14 + h.length
   pub sequence : h.sequence < 256
   pub sec : h.time.sec ≤ 281474976710655
   pub nano : h.time.nano ≤ 999999999
   pub total : h.length ≤ 65535
 
-header-stands : (s : List ℕ) → Bytes s → 14 ≤ length s → get_or s 0 0 ≡ 1 → Stands s 0 (headerBytes (headerIn s))
-unfolding headerBytes
-header-stands s b h v =
-    let front = join (rw v at (byte-stands s 0 (omega arith))) (byte-stands s 1 (omega arith)) in
+header_stands : (s : List ℕ) → Bytes s → 14 ≤ length s → get_or s 0 0 ≡ 1 → Stands s 0 (header_bytes (header_in s))
+unfolding header_bytes
+header_stands s b h v =
+    let front = join (rw v at (byte_stands s 0 (omega arith))) (byte_stands s 1 (omega arith)) in
     join (join (join front (word_stands 6 s 2 b (omega arith))) (word_stands 4 s 8 b (omega arith))) (word_stands 2 s 12 b (omega arith))
 
 -- the header that was read is the one in the first 14 bytes, whatever the numbers
 pub record HeaderGot (s : List ℕ) (h : Header) : Type 0 where
   pub long : 14 ≤ length s
-  pub is : headerIn s ≡ h
+  pub is : header_in s ≡ h
   pub version : get_or s 0 0 ≡ 1
   pub nano : word 4 s 8 ≤ 999999999
   pub rest : word 2 s 12 ≡ length s - 14
 
-pub header-got : (s : List ℕ) {h : Header} → readHeader s ≡ HeaderRead.Got h → HeaderGot s h
-unfolding readHeader
-header-got s {h} e =
+pub header_got : (s : List ℕ) {h : Header} → read_header s ≡ HeaderRead.Got h → HeaderGot s h
+unfolding read_header
+header_got s {h} e =
     passed (ltb (length s) 14) _ _ e (λ z. never (cc)) (λ f e1.
     chosen (eqb (get_or s 0 0) 1) _ _ e1 (λ z. never (cc)) (λ v e2.
     chosen (leb (word 4 s 8) 999999999) _ _ e2 (λ z. never (cc)) (λ n e3.
@@ -154,16 +154,16 @@ header-got s {h} e =
       rest = eqb-true (word 2 s 12) (length s - 14) l;
     }))))
 
-pub header-forth : (s : List ℕ) {h : Header} → Bytes s → readHeader s ≡ HeaderRead.Got h → HeaderForth s h
-unfolding headerBytes
-header-forth s {h} b e =
-    let g = header-got s e in
+pub header_forth : (s : List ℕ) {h : Header} → Bytes s → read_header s ≡ HeaderRead.Got h → HeaderForth s h
+unfolding header_bytes
+header_forth s {h} b e =
+    let g = header_got s e in
     let j = g.long in
     let k = g.rest in
     let x = word_below 6 s 2 b in
     let y = word_below 2 s 12 b in
     rw (← g.is) record {
-      bytes = part-back (header-stands s b j g.version);
+      bytes = part_back (header_stands s b j g.version);
       size = omega arith;
       sequence = bytes-at s 1 b;
       sec = omega arith;

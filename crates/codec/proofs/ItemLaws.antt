@@ -11,8 +11,8 @@ use mir.Val.{bool_byte}
 use borrow.Author.Tests.{leb-true, eqb-true, eq-eqb, ne_eqb}
 use Rattle.codec.specs.Choice.{bit}
 use Rattle.codec.specs.Number.{be, Laid, Below}
-use Rattle.codec.specs.Ident.{kind_of, identBytes, identOk, most_of, canFd, canMost, channelsOk, flexrayRange}
-use Rattle.codec.specs.Item.{stateBytes, setOf, setOk, setFor, stateOk, loadOk, loadBytes, loadLength, flags_of, encode, itemOk, itemLength}
+use Rattle.codec.specs.Ident.{kind_of, ident_bytes, ident_ok, most_of, can_fd, can_most, channels_ok, flexray_range}
+use Rattle.codec.specs.Item.{state_bytes, set_of, set_ok, set_for, state_ok, load_ok, load_bytes, load_length, flags_of, encode, item_ok, item_length}
 use Rattle.codec.specs.declared.ident.Ident.{Ident}
 use Rattle.codec.specs.declared.ident.Ident.TheVariants as Ident
 use Rattle.codec.specs.declared.item.Item.{Item}
@@ -31,24 +31,24 @@ set_sum s i c hs hi =
     last true = or_shifted (s * 2 + i) 1 1 (omega arith) ∙ omega arith
     last false = or_shifted (s * 2 + i) 1 0 (omega arith) ∙ omega arith
 
-pub set-small : (s i : ℕ) (c : Bool) → s < 2 → i < 2 → s * 4 + i * 2 + bit c < 8
-set-small s i true hs hi = omega arith
-set-small s i false hs hi = omega arith
+pub set_small : (s i : ℕ) (c : Bool) → s < 2 → i < 2 → s * 4 + i * 2 + bit c < 8
+set_small s i true hs hi = omega arith
+set_small s i false hs hi = omega arith
 
-pub set-made : {x y a b : ℕ} (c : Bool) → Below x 2 a → Below y 2 b → Below (x * 4 + y * 2 + bit c) 8 (bit_or (bit_or (a * 2 ^ 2 % 2 ^ 8) (b * 2 ^ 1 % 2 ^ 8)) (bool_byte c))
-set-made {x} {y} {a} {b} c p q = record {
+pub set_made : {x y a b : ℕ} (c : Bool) → Below x 2 a → Below y 2 b → Below (x * 4 + y * 2 + bit c) 8 (bit_or (bit_or (a * 2 ^ 2 % 2 ^ 8) (b * 2 ^ 1 % 2 ^ 8)) (bool_byte c))
+set_made {x} {y} {a} {b} c p q = record {
   is = set_sum a b c p.below q.below ∙ rw (p.is, q.is);
-  below = rw (set_sum a b c p.below q.below) (set-small a b c p.below q.below);
+  below = rw (set_sum a b c p.below q.below) (set_small a b c p.below q.below);
 }
 
 -- the flag byte
-pub flag-sum : (set k : ℕ) → set < 8 → k < 4 → bit_or (set * 2 ^ 5 % 2 ^ 8) k ≡ set * 32 + k
-flag-sum set k hs hk =
+pub flag_sum : (set k : ℕ) → set < 8 → k < 4 → bit_or (set * 2 ^ 5 % 2 ^ 8) k ≡ set * 32 + k
+flag_sum set k hs hk =
     let p : set * 2 ^ 5 % 2 ^ 8 ≡ set * 2 ^ 5 = omega arith in
     rw p (or_shifted set 5 k (omega arith))
 
-pub flag-made : {x y a b : ℕ} → Below x 8 a → Below y 4 b → bit_or (a * 2 ^ 5 % 2 ^ 8) b ≡ x * 32 + y
-flag-made {x} {y} {a} {b} p q = flag-sum a b p.below q.below ∙ rw (p.is, q.is)
+pub flag_made : {x y a b : ℕ} → Below x 8 a → Below y 4 b → bit_or (a * 2 ^ 5 % 2 ^ 8) b ≡ x * 32 + y
+flag_made {x} {y} {a} {b} p q = flag_sum a b p.below q.below ∙ rw (p.is, q.is)
 
 -- bits 5, 4 and 3 of the first byte of a FlexRay id
 pub marked : (x : ℕ) → bit_and x 7 ≡ 1 → eqb (x % 8) 1 ≡ true
@@ -58,35 +58,35 @@ pub unmarked : (x : ℕ) → (bit_and x 7 ≡ 1 → ⊥) → eqb (x % 8) 1 ≡ f
 unmarked x h = ne_eqb (x % 8) 1 (λ e. h (and_mask x 3 ∙ e))
 
 -- the first byte of a FlexRay id, and a slot out of its two bytes
-pub front-sum : (c s : ℕ) → c ≤ 3 → s ≤ 2047 → bit_or (bit_or (c * 2 ^ 6 % 2 ^ 8) 8) (s / 2 ^ 8) ≡ c * 64 + 8 + s / 256
-front-sum c s hc hs =
+pub front_sum : (c s : ℕ) → c ≤ 3 → s ≤ 2047 → bit_or (bit_or (c * 2 ^ 6 % 2 ^ 8) 8) (s / 2 ^ 8) ≡ c * 64 + 8 + s / 256
+front_sum c s hc hs =
     let p : c * 2 ^ 6 % 2 ^ 8 ≡ c * 2 ^ 6 = omega arith in
     let q : bit_or (c * 2 ^ 6) 8 ≡ (c * 8 + 1) * 2 ^ 3 = or_shifted c 6 8 (omega arith) ∙ omega arith in
     rw (p, q) (or_shifted (c * 8 + 1) 3 (s / 2 ^ 8) (omega arith) ∙ omega arith)
 
-pub slot-sum : (f low : ℕ) → low < 256 → bit_or (bit_and f 7 * 2 ^ 8 % 2 ^ 16) low ≡ f % 8 * 256 + low
-slot-sum f low h =
+pub slot_sum : (f low : ℕ) → low < 256 → bit_or (bit_and f 7 * 2 ^ 8 % 2 ^ 16) low ≡ f % 8 * 256 + low
+slot_sum f low h =
     let p : f % 8 * 2 ^ 8 % 2 ^ 16 ≡ f % 8 * 2 ^ 8 = omega arith in
     rw (and_mask f 3, p) (or_shifted (f % 8) 8 low h)
 
 -- no payload is longer than 254
-pub most-small : (id : Ident) → most_of id ≤ 254
-most-small (Ident.Can key) = fd (canFd key)
+pub most_small : (id : Ident) → most_of id ≤ 254
+most_small (Ident.Can key) = fd (can_fd key)
   where
-    fd : (b : Bool) → canMost b ≤ 254
+    fd : (b : Bool) → can_most b ≤ 254
     fd true = omega arith
     fd false = omega arith
-most-small (Ident.Lin pid) = omega arith
-most-small (Ident.FlexRay channels slot cycle) = omega arith
-most-small (Ident.FlexRayError channels) = omega arith
-most-small (Ident.Bare k) = omega arith
+most_small (Ident.Lin pid) = omega arith
+most_small (Ident.FlexRay channels slot cycle) = omega arith
+most_small (Ident.FlexRayError channels) = omega arith
+most_small (Ident.Bare k) = omega arith
 
-load-short : (carries : Bool) (most n : ℕ) → most ≤ 254 → loadOk carries most n ≡ true → n ≤ 254
-load-short true most n m e = let h : n ≤ most = leb-true n most e in omega arith
-load-short false most n m e = let h : n ≡ 0 = eqb-true n 0 e in omega arith
+load_short : (carries : Bool) (most n : ℕ) → most ≤ 254 → load_ok carries most n ≡ true → n ≤ 254
+load_short true most n m e = let h : n ≤ most = leb-true n most e in omega arith
+load_short false most n m e = let h : n ≡ 0 = eqb-true n 0 e in omega arith
 
 -- a set that goes with an id is one of the four
-pub set_known : (id : Ident) (set : ℕ) → setFor id set ≡ true → setOk set ≡ true
+pub set_known : (id : Ident) (set : ℕ) → set_for id set ≡ true → set_ok set ≡ true
 set_known (Ident.Can key) set e = e
 set_known (Ident.Lin pid) set e = e
 set_known (Ident.FlexRay channels slot cycle) set e = e
@@ -94,43 +94,43 @@ set_known (Ident.FlexRayError channels) set e = rw (eqb-true set 6 e)
 set_known (Ident.Bare k) set e = e
 
 -- what an item that may stand in a frame meets
-module _ (it : Item) (n : ℕ) (e : itemOk it n ≡ true) where
+module _ (it : Item) (n : ℕ) (e : item_ok it n ≡ true) where
   abbrev set : Bool
-  set = setFor it.ident (setOf it.state it.ident it.carries)
+  set = set_for it.ident (set_of it.state it.ident it.carries)
 
   abbrev bits : Bool
-  bits = stateOk (kind_of it.ident) it.state
+  bits = state_ok (kind_of it.ident) it.state
 
   abbrev load : Bool
-  load = loadOk it.carries (most_of it.ident) n
+  load = load_ok it.carries (most_of it.ident) n
 
   pub ok_load : load ≡ true
-  unfolding itemOk
-  ok_load = and_r (set && bits && identOk it.ident) load e
+  unfolding item_ok
+  ok_load = and_r (set && bits && ident_ok it.ident) load e
 
-  pub ok-ident : identOk it.ident ≡ true
-  unfolding itemOk
-  ok-ident = and_r (set && bits) (identOk it.ident) (and_l (set && bits && identOk it.ident) load e)
+  pub ok_ident : ident_ok it.ident ≡ true
+  unfolding item_ok
+  ok_ident = and_r (set && bits) (ident_ok it.ident) (and_l (set && bits && ident_ok it.ident) load e)
 
-  pub ok-state : bits ≡ true
-  unfolding itemOk
-  ok-state = and_r set bits (and_l (set && bits) (identOk it.ident) (and_l (set && bits && identOk it.ident) load e))
+  pub ok_state : bits ≡ true
+  unfolding item_ok
+  ok_state = and_r set bits (and_l (set && bits) (ident_ok it.ident) (and_l (set && bits && ident_ok it.ident) load e))
 
   pub ok-set : set ≡ true
-  unfolding itemOk
-  ok-set = and_l set bits (and_l (set && bits) (identOk it.ident) (and_l (set && bits && identOk it.ident) load e))
+  unfolding item_ok
+  ok-set = and_l set bits (and_l (set && bits) (ident_ok it.ident) (and_l (set && bits && ident_ok it.ident) load e))
 
-pub ok-short : (it : Item) (n : ℕ) → itemOk it n ≡ true → n ≤ 254
-ok-short it n e = load-short it.carries (most_of it.ident) n (most-small it.ident) (ok_load it n e)
+pub ok_short : (it : Item) (n : ℕ) → item_ok it n ≡ true → n ≤ 254
+ok_short it n e = load_short it.carries (most_of it.ident) n (most_small it.ident) (ok_load it n e)
 
 -- what channels in range are
-pub channels-in : (c : ℕ) → channelsOk c ≡ true → (1 ≤ c) × (c ≤ 3)
-channels-in c e = (leb-true 1 c (and_l (leb 1 c) (leb c 3) e), leb-true c 3 (and_r (leb 1 c) (leb c 3) e))
+pub channels_in : (c : ℕ) → channels_ok c ≡ true → (1 ≤ c) × (c ≤ 3)
+channels_in c e = (leb-true 1 c (and_l (leb 1 c) (leb c 3) e), leb-true c 3 (and_r (leb 1 c) (leb c 3) e))
 
 -- what a FlexRay id in range holds
-pub flexray-in : (c s y : ℕ) → flexrayRange c s y ≡ true → (1 ≤ c) × (c ≤ 3) × (1 ≤ s) × (s ≤ 2047) × (y ≤ 63)
-unfolding flexrayRange
-flexray-in c s y e =
+pub flexray_in : (c s y : ℕ) → flexray_range c s y ≡ true → (1 ≤ c) × (c ≤ 3) × (1 ≤ s) × (s ≤ 2047) × (y ≤ 63)
+unfolding flexray_range
+flexray_in c s y e =
     let e4 = and_l (leb 1 c && leb c 3 && leb 1 s && leb s 2047) (leb y 63) e in
     let e3 = and_l (leb 1 c && leb c 3 && leb 1 s) (leb s 2047) e4 in
     let e2 = and_l (leb 1 c && leb c 3) (leb 1 s) e3 in (
@@ -141,21 +141,21 @@ flexray-in c s y e =
       leb-true y 63 (and_r (leb 1 c && leb c 3 && leb 1 s && leb s 2047) (leb y 63) e),
     )
 
-pub length-load : (carries : Bool) (pl : List ℕ) → length (loadBytes carries pl) ≡ loadLength carries (length pl)
-length-load true pl = omega arith
-length-load false pl = refl
+pub length_load : (carries : Bool) (pl : List ℕ) → length (load_bytes carries pl) ≡ load_length carries (length pl)
+length_load true pl = omega arith
+length_load false pl = refl
 
 -- an item is as long as it says
-pub encode-length : (it : Item) (pl : List ℕ) → length (encode it pl) ≡ itemLength it (length pl)
+pub encode-length : (it : Item) (pl : List ℕ) → length (encode it pl) ≡ item_length it (length pl)
 unfolding encode
-encode-length it pl = simp (length-append, length-load it.carries pl) (omega arith)
+encode-length it pl = simp (length-append, length_load it.carries pl) (omega arith)
 
 -- the four parts laid one after the other are the item
-pub item-laid : {l l1 l2 l3 l4 : List ℕ} {at r1 r2 r3 r4 : ℕ} (f : ℕ) (it : Item) (pl : List ℕ)
-    → Laid l at (be 2 it.offset.0 ++ f ∷ it.network ∷ []) l1 r1 → Laid l1 r1 (stateBytes it.state) l2 r2 → Laid l2 r2 (identBytes it.ident) l3 r3
-    → Laid l3 r3 (loadBytes it.carries pl) l4 r4
+pub item_laid : {l l1 l2 l3 l4 : List ℕ} {at r1 r2 r3 r4 : ℕ} (f : ℕ) (it : Item) (pl : List ℕ)
+    → Laid l at (be 2 it.offset.0 ++ f ∷ it.network ∷ []) l1 r1 → Laid l1 r1 (state_bytes it.state) l2 r2 → Laid l2 r2 (ident_bytes it.ident) l3 r3
+    → Laid l3 r3 (load_bytes it.carries pl) l4 r4
     → f ≡ flags_of it → at + length (encode it pl) ≤ length l → Laid l at (encode it pl) l4 r4
 unfolding encode
-item-laid f it pl a b d t e h =
+item_laid f it pl a b d t e h =
     let k = encode-length it pl in
     rw (← e) (chain (chain (chain a b (omega arith)) d (simp length-append (omega arith))) t (simp length-append (omega arith)))

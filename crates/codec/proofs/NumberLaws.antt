@@ -21,15 +21,15 @@ abbrev pub stores : List ℕ → ℕ → ℕ → List ℕ → List ℕ
 stores l at k [] = l
 stores l at k (b ∷ bs) = stores (set l (at + k) b) at (suc k) bs
 
-stores-sets : (bs l : List ℕ) (at k : ℕ) → stores l at k bs ≡ sets l (at + k) bs
-stores-sets [] l at k = refl
-stores-sets (b ∷ bs) l at k =
-    stores-sets bs (set l (at + k) b) at (suc k) ∙ ap (λ (n : ℕ). sets (set l (at + k) b) n bs) (add-suc at k)
+stores_sets : (bs l : List ℕ) (at k : ℕ) → stores l at k bs ≡ sets l (at + k) bs
+stores_sets [] l at k = refl
+stores_sets (b ∷ bs) l at k =
+    stores_sets bs (set l (at + k) b) at (suc k) ∙ ap (λ (n : ℕ). sets (set l (at + k) b) n bs) (add-suc at k)
 
 -- a run of stores from index at is its bytes over the list
 pub run : (l : List ℕ) (at b : ℕ) (bs : List ℕ) → at + suc (length bs) ≤ length l → stores (set l at b) at 1 bs ≡ over l at (b ∷ bs)
 run l at b bs h =
-    stores-sets bs (set l at b) at 1
+    stores_sets bs (set l at b) at 1
     ∙ ap (λ (n : ℕ). sets (set l at b) n bs) (add-one at)
     ∙ sets-eq (b ∷ bs) l at h
 
@@ -38,15 +38,15 @@ pub no_room : (s : List ℕ) (at n : ℕ) → length s < at + n → fits s at n 
 unfolding fits
 no_room s at n h = lt-leb (at + n) (length s) h
 
-pub has_room : (s : List ℕ) (at n : ℕ) → at + n ≤ length s → fits s at n ≡ true
+pub has_room_lem : (s : List ℕ) (at n : ℕ) → at + n ≤ length s → fits s at n ≡ true
 unfolding fits
-has_room s at n h = le-leb (at + n) (length s) h
+has_room_lem s at n h = le-leb (at + n) (length s) h
 
 pub miss : {A : Type 0} {y : A} (x : A) (s : List ℕ) (at n : ℕ) → length s < at + n → y ≡ pick (fits s at n) x y
 miss x s at n h = simp (no_room s at n h)
 
 pub hit : {A : Type 0} {z : A} (x y : A) (s : List ℕ) (at n : ℕ) → at + n ≤ length s → z ≡ x → z ≡ pick (fits s at n) x y
-hit x y s at n h e = rw (has_room s at n h) e
+hit x y s at n h e = rw (has_room_lem s at n h) e
 
 pub wide : {l : List ℕ} {at : ℕ} {bs : List ℕ} → Wrote false l at bs l Put.Nothing
 wide = record { list = refl; answer = refl }
@@ -88,8 +88,8 @@ chain {l} {at} {xs} {ys} {m} {l'} {k} {r} a b h = record {
   next = rw length-append (omega arith);
 }
 
-pub from-laid : {fit : Bool} {l : List ℕ} {at : ℕ} {bs : List ℕ} {l' : List ℕ} {r : ℕ} → fit ≡ true → at + length bs ≤ length l → Laid l at bs l' r → Wrote fit l at bs l' (Put.Next r)
-from-laid e h d = rw (e, d.next) (wrote h d.list)
+pub from_laid : {fit : Bool} {l : List ℕ} {at : ℕ} {bs : List ℕ} {l' : List ℕ} {r : ℕ} → fit ≡ true → at + length bs ≤ length l → Laid l at bs l' r → Wrote fit l at bs l' (Put.Next r)
+from_laid e h d = rw (e, d.next) (wrote h d.list)
 
 pub refused : {fit : Bool} {l : List ℕ} {at : ℕ} {bs : List ℕ} → fit ≡ false → Wrote fit l at bs l Put.Nothing
 refused e = rw e wide
@@ -115,8 +115,8 @@ grow l at b bs h =
     let e : over l (suc at) bs ≡ take at l ++ (get_or l at 0 ∷ q) = rw (take-suc l at 0 h) (simp append_assoc) in
     rw e (set_at (take at l) (get_or l at 0) q b at (length-take-le at l (omega arith)) ∙ simp (append_assoc, suc-add, add-suc))
 
-pub down-first : (l : List ℕ) (at n v : ℕ) → Down l at n v l v n
-down-first l at n v =
+pub down_first : (l : List ℕ) (at n v : ℕ) → Down l at n v l v n
+down_first l at n v =
     let e : n - n ≡ 0 = omega arith in
     record { most = omega arith; left = rw e; list = rw e (paste-zero l (at + n) []); len = refl }
 
@@ -133,17 +133,17 @@ down {l} {at} {n} {v} {out} {x} {i} b d h f g =
       len = simp length-set d.len;
     }
 
-pub down-last : {l : List ℕ} {at n v : ℕ} {out : List ℕ} {x i : ℕ} → Down l at n v out x i → i ≤ 0 → at + n ≤ length l → Wrote true l at (be n v) out (Put.Next (at + n))
-down-last {l} {at} {n} {v} {out} {x} {i} d h f =
+pub down_last : {l : List ℕ} {at n v : ℕ} {out : List ℕ} {x i : ℕ} → Down l at n v out x i → i ≤ 0 → at + n ≤ length l → Wrote true l at (be n v) out (Put.Next (at + n))
+down_last {l} {at} {n} {v} {out} {x} {i} d h f =
     let k : at + i ≡ at = omega arith in
     let e : n - i ≡ n = omega arith in
     let w : Wrote true l at (be n v) out (Put.Next (at + length (be n v))) = wrote (rw (length-be n v) f) (rw (k, e) at d.list) in
     rw (length-be n v) at w
 
 -- the number of a list that grows at its end
-val-snoc : (a : ℕ) (xs : List ℕ) (b : ℕ) → val a (xs ++ (b ∷ [])) ≡ val a xs * 256 + b
-val-snoc a [] b = refl
-val-snoc a (x ∷ xs) b = val-snoc (a * 256 + x) xs b
+val_snoc : (a : ℕ) (xs : List ℕ) (b : ℕ) → val a (xs ++ (b ∷ [])) ≡ val a xs * 256 + b
+val_snoc a [] b = refl
+val_snoc a (x ∷ xs) b = val_snoc (a * 256 + x) xs b
 
 -- the bytes of s from index at, from the first on: i of n are read, and x is their number
 pub record Up (s : List ℕ) (at n x i : ℕ) : Type 0 where
@@ -162,20 +162,20 @@ up {s} {at} {n} {x} {i} b u h f g k =
     let e : take (suc i) (drop at s) ≡ take i (drop at s) ++ (get_or s (at + i) 0 ∷ []) = rw (take-suc (drop at s) i 0 j, get_or-drop at s i 0) in
     record {
       most = omega arith;
-      is = rw (add-one i, e, val-snoc 0 (take i (drop at s)) (get_or s (at + i) 0), ← g, u.is);
+      is = rw (add-one i, e, val_snoc 0 (take i (drop at s)) (get_or s (at + i) 0), ← g, u.is);
       below = rw (add-one i, pow-succ' 256 i) (omega arith);
     }
 
 -- a number of fewer than eight bytes leaves room for one more
-pub room-up : {s : List ℕ} {at n x i : ℕ} → Up s at n x i → i < n → n ≤ 8 → x < 2 ^ 56
-room-up {s} {at} {n} {x} {i} u h k =
+pub room_up : {s : List ℕ} {at n x i : ℕ} → Up s at n x i → i < n → n ≤ 8 → x < 2 ^ 56
+room_up {s} {at} {n} {x} {i} u h k =
     let b = u.below in
     let m : 256 ^ i ≤ 256 ^ 7 = pow-le-pow_right {n = 256} (omega arith) {i = i} {j = 7} (omega arith) in
     omega arith
 
-pub up-last : {s : List ℕ} {at n x i : ℕ} → Up s at n x i → n ≤ i → Word n (word n s at) x
+pub up_last : {s : List ℕ} {at n x i : ℕ} → Up s at n x i → n ≤ i → Word n (word n s at) x
 unfolding word
-up-last {s} {at} {n} {x} {i} u h =
+up_last {s} {at} {n} {x} {i} u h =
     let m = u.most in
     let e : i ≡ n = omega arith in
     record { is = rw e at u.is; below = rw e at u.below }
@@ -188,33 +188,33 @@ part_room s at n {next} e =
     let z : at + n ≡ next = cc in
     (leb-true (at + n) (length s) f, sym z))
 
-pub pow-256 : (n : ℕ) → 0 < 256 ^ n
-pow-256 zero = omega arith
-pow-256 (suc n) = let h : 0 < 256 ^ n = pow-256 n in rw (pow-succ' 256 n) (omega arith)
+pub pow_256 : (n : ℕ) → 0 < 256 ^ n
+pow_256 zero = omega arith
+pow_256 (suc n) = let h : 0 < 256 ^ n = pow_256 n in rw (pow-succ' 256 n) (omega arith)
 
 -- a number that is not all there, or too wide, reads as 0
 pub word_wide : (n : ℕ) (s : List ℕ) (at : ℕ) → 8 < n → Word n (word_at n s at) 0
 unfolding word_at
-word_wide n s at h = record { is = simp (lt-leb n 8 h); below = pow-256 n }
+word_wide n s at h = record { is = simp (lt-leb n 8 h); below = pow_256 n }
 
-pub word-short : (n : ℕ) (s : List ℕ) (at : ℕ) → n ≤ 8 → length s < at + n → Word n (word_at n s at) 0
+pub word_short : (n : ℕ) (s : List ℕ) (at : ℕ) → n ≤ 8 → length s < at + n → Word n (word_at n s at) 0
 unfolding word_at
-word-short n s at h k = record { is = simp (le-leb n 8 h, no_room s at n k); below = pow-256 n }
+word_short n s at h k = record { is = simp (le-leb n 8 h, no_room s at n k); below = pow_256 n }
 
-pub word-is : (n : ℕ) (s : List ℕ) (at : ℕ) → n ≤ 8 → at + n ≤ length s → word_at n s at ≡ word n s at
+pub word_is : (n : ℕ) (s : List ℕ) (at : ℕ) → n ≤ 8 → at + n ≤ length s → word_at n s at ≡ word n s at
 unfolding word_at
-word-is n s at h k = simp (le-leb n 8 h, has_room s at n k)
+word_is n s at h k = simp (le-leb n 8 h, has_room_lem s at n k)
 
-pub word-found : {n x : ℕ} (s : List ℕ) (at : ℕ) → n ≤ 8 → at + n ≤ length s → Word n (word n s at) x → Word n (word_at n s at) x
-word-found {n} s at h k w = rw (word-is n s at h k) w
+pub word_found : {n x : ℕ} (s : List ℕ) (at : ℕ) → n ≤ 8 → at + n ≤ length s → Word n (word n s at) x → Word n (word_at n s at) x
+word_found {n} s at h k w = rw (word_is n s at h k) w
 
 pub length_over : (l : List ℕ) (at : ℕ) (bs : List ℕ) → at + length bs ≤ length l → length (over l at bs) ≡ length l
 length_over l at bs h = simp (length-append, length-take-le at l (omega arith), length-drop) (omega arith)
 
 -- a write that had room, after bytes that were laid
-pub chain-put : {l : List ℕ} {at : ℕ} {xs ys m l' : List ℕ} {k : ℕ} {p : Put} → Laid l at xs m k → Wrote true m k ys l' p
+pub chain_put : {l : List ℕ} {at : ℕ} {xs ys m l' : List ℕ} {k : ℕ} {p : Put} → Laid l at xs m k → Wrote true m k ys l' p
     → at + length xs + length ys ≤ length l → Laid l at (xs ++ ys) l' (k + length ys)
-chain-put {l} {at} {xs} {ys} {m} {l'} {k} a w h =
+chain_put {l} {at} {xs} {ys} {m} {l'} {k} a w h =
     let n : length m ≡ length l = ap length a.list ∙ length_over l at xs (omega arith) in
     let e = a.next in
     chain a (laid_by w refl (omega arith)) (omega arith)
@@ -225,16 +225,16 @@ pub record Copying (l : List ℕ) (at : ℕ) (src out : List ℕ) (i : ℕ) : Ty
   pub size : length out ≡ length l
   pub left : sets l at src ≡ sets out (at + i) (drop i src)
 
-pub copying-first : (l : List ℕ) (at : ℕ) (src : List ℕ) → Copying l at src l 0
-copying-first l at src = record { most = omega arith; size = refl; left = rw add-zero }
+pub copying_first : (l : List ℕ) (at : ℕ) (src : List ℕ) → Copying l at src l 0
+copying_first l at src = record { most = omega arith; size = refl; left = rw add-zero }
 
-pub copying-more : {l : List ℕ} {at : ℕ} {src out : List ℕ} {i : ℕ} → Copying l at src out i → i < length src → Copying l at src (set out (at + i) (get_or src i 0)) (i + 1)
-copying-more {l} {at} {src} {out} {i} k h =
+pub copying_more : {l : List ℕ} {at : ℕ} {src out : List ℕ} {i : ℕ} → Copying l at src out i → i < length src → Copying l at src (set out (at + i) (get_or src i 0)) (i + 1)
+copying_more {l} {at} {src} {out} {i} k h =
     let p : sets out (at + i) (drop i src) ≡ sets (set out (at + i) (get_or src i 0)) (at + (i + 1)) (drop (i + 1) src)
     = rw (drop-cons src i 0 h, add-one i, add-suc at i) in
     record { most = omega arith; size = simp length-set k.size; left = k.left ∙ p }
 
-pub copying-end : {l : List ℕ} {at : ℕ} {src out : List ℕ} {i : ℕ} → Copying l at src out i → length src ≤ i → at + length src ≤ length l → Wrote true l at src out (Put.Next (at + length src))
-copying-end {l} {at} {src} {out} {i} k h f =
+pub copying_end : {l : List ℕ} {at : ℕ} {src out : List ℕ} {i : ℕ} → Copying l at src out i → length src ≤ i → at + length src ≤ length l → Wrote true l at src out (Put.Next (at + length src))
+copying_end {l} {at} {src} {out} {i} k h f =
     let p : sets out (at + i) (drop i src) ≡ out = rw (drop_of_length-le src h) in
     wrote f (sym (k.left ∙ p) ∙ sets-eq src l at f)

@@ -4,9 +4,9 @@ use mathlib.Core.Path.{◌≡◌, refl}
 use mathlib.Core.Bool.{Bool, true, false}
 use native.Mathlib.Omega.{arith}
 use Rattle.codec.specs.Choice.{pick}
-use Rattle.codec.specs.Number.{open8, open16, open32, openPart}
-use Rattle.codec.specs.Ident.{openKind}
-use Rattle.codec.specs.Field.{openFlags, openState, openIdent, openLoad}
+use Rattle.codec.specs.Number.{open8, open16, open32, open_part}
+use Rattle.codec.specs.Ident.{open_kind}
+use Rattle.codec.specs.Field.{open_flags, open_state, open_ident, open_load}
 use Rattle.codec.specs.declared.refusal.Refusal.{Refusal}
 use Rattle.codec.specs.declared.number.Part.{Part}
 use Rattle.codec.specs.declared.number.Part.TheVariants as Part
@@ -57,32 +57,32 @@ module _ {A G : Type 0} {x : A} where
   in32 (Read32.Got v n) k z e un g = g v n refl e
   in32 Read32.Short k z e un g = un e
 
-  pub inPart : (r : Part) (k : ℕ → A) (z : A) → openPart r k z ≡ x → (z ≡ x → G) → ((n : ℕ) → r ≡ Part.Got n → k n ≡ x → G) → G
-  inPart (Part.Got n) k z e un g = g n refl e
-  inPart Part.Short k z e un g = un e
+  pub in_part : (r : Part) (k : ℕ → A) (z : A) → open_part r k z ≡ x → (z ≡ x → G) → ((n : ℕ) → r ≡ Part.Got n → k n ≡ x → G) → G
+  in_part (Part.Got n) k z e un g = g n refl e
+  in_part Part.Short k z e un g = un e
 
-  pub inKind : (r : KindRead) (k : Kind → A) (z : A) → openKind r k z ≡ x → (z ≡ x → G) → ((v : Kind) → r ≡ KindRead.Got v → k v ≡ x → G) → G
-  inKind (KindRead.Got v) k z e un g = g v refl e
-  inKind KindRead.Unknown k z e un g = un e
+  pub in_kind : (r : KindRead) (k : Kind → A) (z : A) → open_kind r k z ≡ x → (z ≡ x → G) → ((v : Kind) → r ≡ KindRead.Got v → k v ≡ x → G) → G
+  in_kind (KindRead.Got v) k z e un g = g v refl e
+  in_kind KindRead.Unknown k z e un g = un e
 
 -- the same of the answers to an item's fields
 module _ {G : Type 0} {x : ItemRead} where
-  pub inFlags : (r : FlagsRead) (k : Kind → ℕ → ℕ → ItemRead) → openFlags r k ≡ x → ((why : Refusal) → ItemRead.Refused why ≡ x → G)
+  pub in_flags : (r : FlagsRead) (k : Kind → ℕ → ℕ → ItemRead) → open_flags r k ≡ x → ((why : Refusal) → ItemRead.Refused why ≡ x → G)
       → ((v : Kind) (w n : ℕ) → r ≡ FlagsRead.Got v w n → k v w n ≡ x → G) → G
-  inFlags (FlagsRead.Got v w n) k e un g = g v w n refl e
-  inFlags (FlagsRead.Refused why) k e un g = un why e
+  in_flags (FlagsRead.Got v w n) k e un g = g v w n refl e
+  in_flags (FlagsRead.Refused why) k e un g = un why e
 
-  pub inState : (r : StateRead) (k : State → ℕ → ItemRead) → openState r k ≡ x → ((why : Refusal) → ItemRead.Refused why ≡ x → G)
+  pub in_state : (r : StateRead) (k : State → ℕ → ItemRead) → open_state r k ≡ x → ((why : Refusal) → ItemRead.Refused why ≡ x → G)
       → ((v : State) (n : ℕ) → r ≡ StateRead.Got v n → k v n ≡ x → G) → G
-  inState (StateRead.Got v n) k e un g = g v n refl e
-  inState (StateRead.Refused why) k e un g = un why e
+  in_state (StateRead.Got v n) k e un g = g v n refl e
+  in_state (StateRead.Refused why) k e un g = un why e
 
-  pub inIdent : (r : IdentRead) (k : Ident → ℕ → ItemRead) → openIdent r k ≡ x → ((why : Refusal) → ItemRead.Refused why ≡ x → G)
+  pub in_ident : (r : IdentRead) (k : Ident → ℕ → ItemRead) → open_ident r k ≡ x → ((why : Refusal) → ItemRead.Refused why ≡ x → G)
       → ((v : Ident) (n : ℕ) → r ≡ IdentRead.Got v n → k v n ≡ x → G) → G
-  inIdent (IdentRead.Got v n) k e un g = g v n refl e
-  inIdent (IdentRead.Refused why) k e un g = un why e
+  in_ident (IdentRead.Got v n) k e un g = g v n refl e
+  in_ident (IdentRead.Refused why) k e un g = un why e
 
-  pub inLoad : (r : LoadRead) (k : ℕ → ℕ → ℕ → ItemRead) → openLoad r k ≡ x → ((why : Refusal) → ItemRead.Refused why ≡ x → G)
+  pub in_load : (r : LoadRead) (k : ℕ → ℕ → ℕ → ItemRead) → open_load r k ≡ x → ((why : Refusal) → ItemRead.Refused why ≡ x → G)
       → ((v w n : ℕ) → r ≡ LoadRead.Got v w n → k v w n ≡ x → G) → G
-  inLoad (LoadRead.Got v w n) k e un g = g v w n refl e
-  inLoad (LoadRead.Refused why) k e un g = un why e
+  in_load (LoadRead.Got v w n) k e un g = g v w n refl e
+  in_load (LoadRead.Refused why) k e un g = un why e

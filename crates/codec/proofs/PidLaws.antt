@@ -10,11 +10,11 @@ use lib.Dec.{ltb, eqb}
 use lib.Bits.{bit_and, bit_or, bit_xor, and_mask, xor_mod, xor_lt, or_shifted}
 use borrow.Author.Tests.{eqb-true, eq-eqb, ne_eqb, ltb-true, ltb-false, not-true}
 use Rattle.codec.specs.Choice.{bit}
-use Rattle.codec.specs.Ident.{evenParity, oddParity, pidOk, identOk}
+use Rattle.codec.specs.Ident.{even_parity, odd_parity, pid_ok, ident_ok}
 use Rattle.codec.specs.Layout.{Entry, Valid}
 use Rattle.codec.specs.declared.ident.Ident.TheVariants as Ident
 use Rattle.codec.proofs.BoolLaws.{and_l, and_r}
-use Rattle.codec.proofs.ItemLaws.{ok-ident}
+use Rattle.codec.proofs.ItemLaws.{ok_ident}
 
 -- how many numbers below n pass a test
 abbrev pub count : (ℕ → Bool) → ℕ → ℕ
@@ -36,44 +36,44 @@ abbrev alike : Bool → Bool → Bool
 alike true b = b
 alike false b = not b
 
-alike-true : (a b : Bool) → alike a b ≡ true → a ≡ b
-alike-true true b e = sym e
-alike-true false b e = sym (not-true b e)
+alike_true : (a b : Bool) → alike a b ≡ true → a ≡ b
+alike_true true b e = sym e
+alike_true false b e = sym (not-true b e)
 
 -- the PID of an id, by adding: an exclusive or of bits is the remainder of their sum by 2
-abbrev pub pidOf : ℕ → ℕ
-pidOf id = id + (id + id / 2 + id / 4 + id / 16) % 2 * 64 + (1 + id / 2 + id / 8 + id / 16 + id / 32) % 2 * 128
+abbrev pub pid_of : ℕ → ℕ
+pid_of id = id + (id + id / 2 + id / 4 + id / 16) % 2 * 64 + (1 + id / 2 + id / 8 + id / 16 + id / 32) % 2 * 128
 
 -- of the 256 bytes 64 pass
-pub sixty-four : count pidOk 256 ≡ 64
-unfolding pidOk evenParity oddParity
-sixty-four = refl
+pub sixty_four : count pid_ok 256 ≡ 64
+unfolding pid_ok even_parity odd_parity
+sixty_four = refl
 
 -- exactly one for each id
-abbrev pub pidsWith : ℕ → ℕ
-pidsWith id = count (λ pid. pidOk pid && eqb (pid % 64) id) 256
+abbrev pub pids_with : ℕ → ℕ
+pids_with id = count (λ pid. pid_ok pid && eqb (pid % 64) id) 256
 
-pub one_each : (id : ℕ) → id < 64 → pidsWith id ≡ 1
-unfolding pidOk evenParity oddParity
-one_each id h = eqb-true (pidsWith id) 1 (sweep (λ id. eqb (pidsWith id) 1) 64 refl id h)
+pub one_each : (id : ℕ) → id < 64 → pids_with id ≡ 1
+unfolding pid_ok even_parity odd_parity
+one_each id h = eqb-true (pids_with id) 1 (sweep (λ id. eqb (pids_with id) 1) 64 refl id h)
 
 -- P0 and P1 are bits
-even-small : (pid : ℕ) → evenParity pid < 2
-unfolding evenParity
-even-small pid =
+even_small : (pid : ℕ) → even_parity pid < 2
+unfolding even_parity
+even_small pid =
     let b : (n : ℕ) → pid / 2 ^ n % 2 < 2 = λ n. mod-lt _ (omega arith) in
     xor_lt 1 _ _ (xor_lt 1 _ _ (xor_lt 1 _ _ (b 0) (b 1)) (b 2)) (b 4)
 
-odd-small : (pid : ℕ) → oddParity pid < 2
-unfolding oddParity
-odd-small pid = omega arith
+odd_small : (pid : ℕ) → odd_parity pid < 2
+unfolding odd_parity
+odd_small pid = omega arith
 
 -- a PID is a byte
-pub pid-small : (pid : ℕ) → pidOk pid ≡ true → pid < 256
-unfolding pidOk
-pid-small pid e =
-    let p = even-small pid in
-    let q = odd-small pid in
+pub pid_small : (pid : ℕ) → pid_ok pid ≡ true → pid < 256
+unfolding pid_ok
+pid_small pid e =
+    let p = even_small pid in
+    let q = odd_small pid in
     let h = eqb-true (pid / 2 ^ 6) _ e in
     omega arith
 
@@ -87,73 +87,73 @@ complement (suc zero) h = refl
 complement (suc (suc x)) h = absurd (not-suc-le-zero (le_of_suc-le-suc (le_of_suc-le-suc h)))
 
 -- the two bits as the program has them
-even-asked : (pid : ℕ) → bit_and (bit_xor (bit_xor (bit_xor pid (pid / 2)) (pid / 4)) (pid / 16)) 1 ≡ evenParity pid
-unfolding evenParity
-even-asked pid = rw div-one (and_mask _ 1 ∙ low_bits pid (pid / 2) (pid / 4) (pid / 16))
+even_asked : (pid : ℕ) → bit_and (bit_xor (bit_xor (bit_xor pid (pid / 2)) (pid / 4)) (pid / 16)) 1 ≡ even_parity pid
+unfolding even_parity
+even_asked pid = rw div-one (and_mask _ 1 ∙ low_bits pid (pid / 2) (pid / 4) (pid / 16))
 
-odd-asked : (pid : ℕ) → bit_and (bit_xor (bit_xor (bit_xor (bit_xor (pid / 2) (pid / 8)) (pid / 16)) (pid / 32)) 1) 1 ≡ oddParity pid
-unfolding oddParity
-odd-asked pid =
+odd_asked : (pid : ℕ) → bit_and (bit_xor (bit_xor (bit_xor (bit_xor (pid / 2) (pid / 8)) (pid / 16)) (pid / 32)) 1) 1 ≡ odd_parity pid
+unfolding odd_parity
+odd_asked pid =
     let x : ℕ = bit_xor (bit_xor (bit_xor (pid / 2) (pid / 8)) (pid / 16)) (pid / 32) in
     and_mask (bit_xor x 1) 1 ∙ xor_mod x 1 1 ∙ complement (x % 2) (mod-lt x (omega arith))
     ∙ ap (λ (y : ℕ). 1 - y) (low_bits (pid / 2) (pid / 8) (pid / 16) (pid / 32))
 
 -- the rule as the program asks it, P1 shifted above P0
-pub pid-asked : (pid : ℕ)
+pub pid_asked : (pid : ℕ)
     → eqb (pid / 64)
     (bit_or (bit_and (bit_xor (bit_xor (bit_xor (bit_xor (pid / 2) (pid / 8)) (pid / 16)) (pid / 32)) 1) 1 * 2 % 2 ^ 32)
     (bit_and (bit_xor (bit_xor (bit_xor pid (pid / 2)) (pid / 4)) (pid / 16)) 1))
-    ≡ pidOk pid
-unfolding pidOk
-pid-asked pid =
-    let q = odd-small pid in
-    let e : oddParity pid * 2 % 2 ^ 32 ≡ oddParity pid * 2 = omega arith in
-    rw (odd-asked pid, even-asked pid, e) (ap (eqb (pid / 64)) (or_shifted (oddParity pid) 1 (evenParity pid) (even-small pid)))
+    ≡ pid_ok pid
+unfolding pid_ok
+pid_asked pid =
+    let q = odd_small pid in
+    let e : odd_parity pid * 2 % 2 ^ 32 ≡ odd_parity pid * 2 = omega arith in
+    rw (odd_asked pid, even_asked pid, e) (ap (eqb (pid / 64)) (or_shifted (odd_parity pid) 1 (even_parity pid) (even_small pid)))
 
 -- the rule in arithmetic, computed for each of the 256 bytes
 abbrev agrees : ℕ → Bool
-agrees pid = alike (pidOk pid) (eqb pid (pidOf (pid % 64)))
+agrees pid = alike (pid_ok pid) (eqb pid (pid_of (pid % 64)))
 
 bytes : every agrees 256 ≡ true
-unfolding pidOk evenParity oddParity
+unfolding pid_ok even_parity odd_parity
 bytes = refl
 
 -- and for any number: a PID is that of the id in its low six bits
-pub pid-is : (pid : ℕ) → pidOk pid ≡ eqb pid (pidOf (pid % 64))
-pid-is pid = go (ltb pid 256) refl
+pub pid_is : (pid : ℕ) → pid_ok pid ≡ eqb pid (pid_of (pid % 64))
+pid_is pid = go (ltb pid 256) refl
   where
-    away : 256 ≤ pid → (b : Bool) → pidOk pid ≡ b → b ≡ false
-    away w true e = let z : ⊥ = omega (arith, pid-small pid e) in absurd z
+    away : 256 ≤ pid → (b : Bool) → pid_ok pid ≡ b → b ≡ false
+    away w true e = let z : ⊥ = omega (arith, pid_small pid e) in absurd z
     away w false e = refl
 
-    go : (b : Bool) → ltb pid 256 ≡ b → pidOk pid ≡ eqb pid (pidOf (pid % 64))
-    go true h = alike-true _ _ (sweep agrees 256 bytes pid (ltb-true pid 256 h))
+    go : (b : Bool) → ltb pid 256 ≡ b → pid_ok pid ≡ eqb pid (pid_of (pid % 64))
+    go true h = alike_true _ _ (sweep agrees 256 bytes pid (ltb-true pid 256 h))
     go false h =
         let w : 256 ≤ pid = ltb-false pid 256 h in
-        away w (pidOk pid) refl ∙ sym (ne_eqb pid (pidOf (pid % 64)) (λ e. omega arith))
+        away w (pid_ok pid) refl ∙ sym (ne_eqb pid (pid_of (pid % 64)) (λ e. omega arith))
 
 -- each id has a PID, whose low six bits it is
-pub pid-of : (id : ℕ) → id < 64 → pidOk (pidOf id) ≡ true × (pidOf id % 64 ≡ id)
+pub pid-of : (id : ℕ) → id < 64 → pid_ok (pid_of id) ≡ true × (pid_of id % 64 ≡ id)
 pid-of id h =
-    let m : pidOf id % 64 ≡ id = omega arith in
-    (pid-is (pidOf id) ∙ eq-eqb _ _ (sym (ap pidOf m)), m)
+    let m : pid_of id % 64 ≡ id = omega arith in
+    (pid_is (pid_of id) ∙ eq-eqb _ _ (sym (ap pid_of m)), m)
 
 -- one bit of a PID turned over always shows, computed for each PID and each bit
 abbrev shows : ℕ → ℕ → Bool
-shows n pid = not (pidOk pid && pidOk (bit_xor pid (2 ^ n)))
+shows n pid = not (pid_ok pid && pid_ok (bit_xor pid (2 ^ n)))
 
 turns : every (λ n. every (shows n) 256) 8 ≡ true
-unfolding pidOk evenParity oddParity
+unfolding pid_ok even_parity odd_parity
 turns = refl
 
-pub turned-shows : (pid n : ℕ) → n < 8 → pidOk pid ≡ true → pidOk (bit_xor pid (2 ^ n)) ≡ false
-turned-shows pid n h e =
+pub turned_shows : (pid n : ℕ) → n < 8 → pid_ok pid ≡ true → pid_ok (bit_xor pid (2 ^ n)) ≡ false
+turned_shows pid n h e =
     let a = sweep (λ n. every (shows n) 256) 8 turns n h in
-    let b = not-true _ (sweep (shows n) 256 a pid (pid-small pid e)) in
-    ap (λ (t : Bool). t && pidOk (bit_xor pid (2 ^ n))) (sym e) ∙ b
+    let b = not-true _ (sweep (shows n) 256 a pid (pid_small pid e)) in
+    ap (λ (t : Bool). t && pid_ok (bit_xor pid (2 ^ n))) (sym e) ∙ b
 
 -- a LIN item that may stand in a frame carries the PID of its id
-pub valid-pid : (e : Entry) (pid : ℕ) → Valid e → e.item.ident ≡ Ident.Lin pid → pid ≡ pidOf (pid % 64)
-valid-pid e pid v q =
-    let k : pidOk pid ≡ true = sym (ap identOk q) ∙ ok-ident e.item (length e.payload) v.ok in
-    eqb-true pid (pidOf (pid % 64)) (sym (pid-is pid) ∙ k)
+pub valid_pid : (e : Entry) (pid : ℕ) → Valid e → e.item.ident ≡ Ident.Lin pid → pid ≡ pid_of (pid % 64)
+valid_pid e pid v q =
+    let k : pid_ok pid ≡ true = sym (ap ident_ok q) ∙ ok_ident e.item (length e.payload) v.ok in
+    eqb-true pid (pid_of (pid % 64)) (sym (pid_is pid) ∙ k)

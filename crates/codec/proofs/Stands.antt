@@ -9,7 +9,7 @@ use lib.Seq.{take_at, drop_at, length-take-le}
 use lib.Dec.{lit<}
 use lib.Arith.{mod-mul, digits_lt, digits_div}
 use Rattle.codec.specs.Number.{be, val, shr, word, Bytes}
-use Rattle.codec.proofs.NumberLaws.{pow-256}
+use Rattle.codec.proofs.NumberLaws.{pow_256}
 
 -- bs stand in s at index at
 pub record Stands (s : List ℕ) (at : ℕ) (bs : List ℕ) : Type 0 where
@@ -24,8 +24,8 @@ left xs ys w = record { pre = w.pre; post = ys ++ w.post; split = w.split ∙ si
 pub right : {s : List ℕ} {at : ℕ} (xs ys : List ℕ) → Stands s at (xs ++ ys) → Stands s (at + length xs) ys
 right {s} {at} xs ys w = record { pre = w.pre ++ xs; post = w.post; split = w.split ∙ simp append_assoc; len = simp (length-append, w.len) }
 
-pub part-back : {s : List ℕ} {at : ℕ} {bs : List ℕ} → Stands s at bs → take (length bs) (drop at s) ≡ bs
-part-back {s} {at} {bs} w =
+pub part_back : {s : List ℕ} {at : ℕ} {bs : List ℕ} → Stands s at bs → take (length bs) (drop at s) ≡ bs
+part_back {s} {at} {bs} w =
     rw (w.split, append_assoc, drop_at w.pre (bs ++ w.post) at w.len) (take_at bs w.post (length bs) refl)
 
 pub room_back : {s : List ℕ} {at : ℕ} {bs : List ℕ} → Stands s at bs → at + length bs ≤ length s
@@ -40,16 +40,16 @@ join {s} {at} {xs} {ys} w v =
     let e : v.pre ≡ w.pre ++ xs = sym q ∙ p in
     record { pre = w.pre; post = v.post; split = v.split ∙ ap (λ (l : List ℕ). l ++ ys ++ v.post) e ∙ simp append_assoc; len = w.len }
 
-pub stands-part : (s : List ℕ) (at n : ℕ) → at + n ≤ length s → Stands s at (take n (drop at s))
-stands-part s at n h = record {
+pub stands_part : (s : List ℕ) (at n : ℕ) → at + n ≤ length s → Stands s at (take n (drop at s))
+stands_part s at n h = record {
   pre = take at s;
   post = drop n (drop at s);
   split = sym (rw (append_assoc, take-append-drop n (drop at s)) (take-append-drop at s));
   len = length-take-le at s (omega arith);
 }
 
-pub stands-none : (s : List ℕ) (at : ℕ) → at ≤ length s → Stands s at []
-stands-none s at h = stands-part s at 0 (omega arith)
+pub stands_none : (s : List ℕ) (at : ℕ) → at ≤ length s → Stands s at []
+stands_none s at h = stands_part s at 0 (omega arith)
 
 -- lists of bytes
 bytes_take : (n : ℕ) (s : List ℕ) → Bytes s → Bytes (take n s)
@@ -62,12 +62,12 @@ bytes_drop zero s h = h
 bytes_drop (suc n) [] h = tt
 bytes_drop (suc n) (b ∷ s) h = bytes_drop n s h.1
 
-pub bytes-part : (s : List ℕ) (at n : ℕ) → Bytes s → Bytes (take n (drop at s))
-bytes-part s at n h = bytes_take n (drop at s) (bytes_drop at s h)
+pub bytes_part : (s : List ℕ) (at n : ℕ) → Bytes s → Bytes (take n (drop at s))
+bytes_part s at n h = bytes_take n (drop at s) (bytes_drop at s h)
 
-pub bytes-join : (xs ys : List ℕ) → Bytes xs → Bytes ys → Bytes (xs ++ ys)
-bytes-join [] ys h k = k
-bytes-join (x ∷ xs) ys h k = (h.0, bytes-join xs ys h.1 k)
+pub bytes_join : (xs ys : List ℕ) → Bytes xs → Bytes ys → Bytes (xs ++ ys)
+bytes_join [] ys h k = k
+bytes_join (x ∷ xs) ys h k = (h.0, bytes_join xs ys h.1 k)
 
 pub bytes-at : (s : List ℕ) (i : ℕ) → Bytes s → get_or s i 0 < 256
 bytes-at [] i h = omega arith
@@ -86,46 +86,46 @@ shr_is (suc n) v = refl
 pub val-be : (n a v : ℕ) → val a (be n v) ≡ a * 256 ^ n + v % 256 ^ n
 val-be zero a v = omega arith
 val-be (suc n) a v =
-    let p : 0 < 256 ^ n = pow-256 n in
+    let p : 0 < 256 ^ n = pow_256 n in
     let m : v % (256 * 256 ^ n) ≡ v / 256 ^ n % 256 * 256 ^ n + v % 256 ^ n = mod-mul v (lit< tt) p in
     rw (pow-succ' 256 n, m, val-be n (a * 256 + shr n v % 256) v, shr_is n v) (omega arith)
 
-pub bytes-be : (n v : ℕ) → Bytes (be n v)
-bytes-be zero v = tt
-bytes-be (suc n) v = (omega arith, bytes-be n v)
+pub bytes_be : (n v : ℕ) → Bytes (be n v)
+bytes_be zero v = tt
+bytes_be (suc n) v = (omega arith, bytes_be n v)
 
 -- bytes are their number's bytes again, whatever number stands before them
-val-from : (a : ℕ) (bs : List ℕ) → val a bs ≡ a * 256 ^ length bs + val 0 bs
-val-from a [] = omega arith
-val-from a (b ∷ bs) = rw (pow-succ' 256 (length bs), val-from (a * 256 + b) bs, val-from (0 * 256 + b) bs) (omega arith)
+val_from : (a : ℕ) (bs : List ℕ) → val a bs ≡ a * 256 ^ length bs + val 0 bs
+val_from a [] = omega arith
+val_from a (b ∷ bs) = rw (pow-succ' 256 (length bs), val_from (a * 256 + b) bs, val_from (0 * 256 + b) bs) (omega arith)
 
-val-below : (bs : List ℕ) → Bytes bs → val 0 bs < 256 ^ length bs
-val-below [] h = omega arith
-val-below (b ∷ bs) h = rw (pow-succ' 256 (length bs), val-from (0 * 256 + b) bs) (digits_lt (omega arith) (val-below bs h.1))
+val_below : (bs : List ℕ) → Bytes bs → val 0 bs < 256 ^ length bs
+val_below [] h = omega arith
+val_below (b ∷ bs) h = rw (pow-succ' 256 (length bs), val_from (0 * 256 + b) bs) (digits_lt (omega arith) (val_below bs h.1))
 
-be-from : (a : ℕ) (bs : List ℕ) → Bytes bs → be (length bs) (val a bs) ≡ bs
-be-from a [] h = refl
-be-from a (b ∷ bs) h =
+be_from : (a : ℕ) (bs : List ℕ) → Bytes bs → be (length bs) (val a bs) ≡ bs
+be_from a [] h = refl
+be_from a (b ∷ bs) h =
     let q : shr (length bs) (val (a * 256 + b) bs) ≡ a * 256 + b
-    = shr_is (length bs) (val (a * 256 + b) bs) ∙ rw (val-from (a * 256 + b) bs) (digits_div (a * 256 + b) (val-below bs h.1)) in
+    = shr_is (length bs) (val (a * 256 + b) bs) ∙ rw (val_from (a * 256 + b) bs) (digits_div (a * 256 + b) (val_below bs h.1)) in
     let e : (a * 256 + b) % 256 ≡ b = omega (arith, h.0) in
-    rw (q, e, be-from (a * 256 + b) bs h.1)
+    rw (q, e, be_from (a * 256 + b) bs h.1)
 
 pub be-val : (bs : List ℕ) → Bytes bs → be (length bs) (val 0 bs) ≡ bs
-be-val bs h = be-from 0 bs h
+be-val bs h = be_from 0 bs h
 
 pub word_stands : (n : ℕ) (s : List ℕ) (at : ℕ) → Bytes s → at + n ≤ length s → Stands s at (be n (word n s at))
 unfolding word
 word_stands n s at b h =
     let l : length (take n (drop at s)) ≡ n = length-take-le n (drop at s) (simp length-drop (omega arith)) in
     let e : be n (val 0 (take n (drop at s))) ≡ take n (drop at s)
-    = ap (λ (k : ℕ). be k (val 0 (take n (drop at s)))) (sym l) ∙ be-val (take n (drop at s)) (bytes-part s at n b) in
-    rw e (stands-part s at n h)
+    = ap (λ (k : ℕ). be k (val 0 (take n (drop at s)))) (sym l) ∙ be-val (take n (drop at s)) (bytes_part s at n b) in
+    rw e (stands_part s at n h)
 
 pub word_below : (n : ℕ) (s : List ℕ) (at : ℕ) → Bytes s → word n s at < 256 ^ n
 unfolding word
 word_below n s at b =
-    let k = val-below (take n (drop at s)) (bytes-part s at n b) in
+    let k = val_below (take n (drop at s)) (bytes_part s at n b) in
     let l : length (take n (drop at s)) ≤ n = simp length-take (omega arith) in
     let m : 256 ^ length (take n (drop at s)) ≤ 256 ^ n = pow-le-pow_right {n = 256} (omega arith) {i = length (take n (drop at s))} {j = n} l in
     omega arith

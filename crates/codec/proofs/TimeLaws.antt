@@ -13,9 +13,9 @@ use Rattle.codec.specs.declared.time.Elapsed.{Elapsed}
 use Rattle.codec.specs.declared.time.Elapsed.TheVariants as Elapsed
 use Rattle.codec.specs.declared.time.Span.{Span}
 use Rattle.codec.specs.declared.time.Span.TheVariants as Span
-use Rattle.codec.specs.Time.{ns, millisOf, ticksOf, behindBy, elapsed, span_of, overdueOf, recoveredOf}
+use Rattle.codec.specs.Time.{ns, millis_of, ticks_of, behind_by, elapsed, span_of, overdue_of, recovered_of}
 
-pub back : (f t n : ℕ) → t < f → n ≡ behindBy f t → Span.Backwards (record { 0 = n }) ≡ span_of f t
+pub back : (f t n : ℕ) → t < f → n ≡ behind_by f t → Span.Backwards (record { 0 = n }) ≡ span_of f t
 unfolding span_of
 back f t n h e = rw e (simp (lt-ltb t f h))
 
@@ -44,18 +44,18 @@ shift x y f t h = go (ltb y x) refl
 
 -- what a span says of the measure and of the deadline
 abbrev pub measured : Span → Elapsed
-measured (Span.Nanos n) = ticksOf n.0
+measured (Span.Nanos n) = ticks_of n.0
 measured Span.Far = Elapsed.TooFar
 measured (Span.Backwards n) = Elapsed.Backwards n
 
 abbrev pub due : ℕ → Span → Bool
-due d (Span.Nanos n) = leb 1 d && leb d (millisOf n.0)
+due d (Span.Nanos n) = leb 1 d && leb d (millis_of n.0)
 due d Span.Far = leb 1 d
 due d (Span.Backwards n) = false
 
 module _ (f t : ℕ) where
   pub by_span : (p : Span) → span_of f t ≡ p → measured p ≡ elapsed f t
-  unfolding span_of elapsed ticksOf
+  unfolding span_of elapsed ticks_of
   by_span p q = go (ltb t f) refl (ltb (t - f) 100000000000) refl
     where
       go : (b : Bool) → ltb t f ≡ b → (d : Bool) → ltb (t - f) 100000000000 ≡ d → measured p ≡ elapsed f t
@@ -65,9 +65,9 @@ module _ (f t : ℕ) where
           let k : 100000000000 ≤ t - f = ltb-false (t - f) 100000000000 g in
           rw (← q) (simp (e, g, lt-leb ((t - f) / 10000) 65535 (omega arith)))
 
-  pub by-deadline : (d : ℕ) → d ≤ 65535 → (p : Span) → span_of f t ≡ p → due d p ≡ overdueOf f t d
-  unfolding span_of overdueOf
-  by-deadline d m p q = go (leb 1 d) refl (ltb t f) refl (ltb (t - f) 100000000000) refl
+  pub by_deadline : (d : ℕ) → d ≤ 65535 → (p : Span) → span_of f t ≡ p → due d p ≡ overdue_of f t d
+  unfolding span_of overdue_of
+  by_deadline d m p q = go (leb 1 d) refl (ltb t f) refl (ltb (t - f) 100000000000) refl
     where
       same : (a b x y : ℕ) → (a ≤ b → x ≤ y) → (x ≤ y → a ≤ b) → leb a b ≡ leb x y
       same a b x y u v = two (leb a b) refl
@@ -83,7 +83,7 @@ module _ (f t : ℕ) where
                   let z : ⊥ = omega arith in absurd z
               other false h = e ∙ sym h
 
-      go : (o : Bool) → leb 1 d ≡ o → (b : Bool) → ltb t f ≡ b → (w : Bool) → ltb (t - f) 100000000000 ≡ w → due d p ≡ overdueOf f t d
+      go : (o : Bool) → leb 1 d ≡ o → (b : Bool) → ltb t f ≡ b → (w : Bool) → ltb (t - f) 100000000000 ≡ w → due d p ≡ overdue_of f t d
       go false o true e w g = rw (← q) (simp (o, e))
       go false o false e true g = rw (← q) (simp (o, e, g))
       go false o false e false g = rw (← q) (simp (o, e, g))
@@ -102,7 +102,7 @@ module _ (f t : ℕ) where
 
 -- ticks say where the later time lies
 pub within : (f t k : ℕ) → elapsed f t ≡ Elapsed.Ticks (record { 0 = k }) → (f + k * 10000 ≤ t) × (t < f + k * 10000 + 10000)
-unfolding elapsed ticksOf
+unfolding elapsed ticks_of
 within f t k h = go (ltb t f) refl (leb ((t - f) / 10000) 65535) refl
   where
     go : (b : Bool) → ltb t f ≡ b → (d : Bool) → leb ((t - f) / 10000) 65535 ≡ d → (f + k * 10000 ≤ t) × (t < f + k * 10000 + 10000)
@@ -115,40 +115,40 @@ within f t k h = go (ltb t f) refl (leb ((t - f) / 10000) 65535) refl
     go false e false g = never (cc)
 
 -- backwards says how far, from 1 on; below the cut that number leads from the reading back to the header time
-pub backwards-by : (f t n : ℕ) → elapsed f t ≡ Elapsed.Backwards (record { 0 = n }) → (n ≡ behindBy f t) × ((t < f) × ((1 ≤ n) × (n < 4294967295 → t + n ≡ f)))
-unfolding elapsed ticksOf
-backwards-by f t n h = go (ltb t f) refl (leb ((t - f) / 10000) 65535) refl
+pub backwards_by : (f t n : ℕ) → elapsed f t ≡ Elapsed.Backwards (record { 0 = n }) → (n ≡ behind_by f t) × ((t < f) × ((1 ≤ n) × (n < 4294967295 → t + n ≡ f)))
+unfolding elapsed ticks_of
+backwards_by f t n h = go (ltb t f) refl (leb ((t - f) / 10000) 65535) refl
   where
-    go : (b : Bool) → ltb t f ≡ b → (d : Bool) → leb ((t - f) / 10000) 65535 ≡ d → (n ≡ behindBy f t) × ((t < f) × ((1 ≤ n) × (n < 4294967295 → t + n ≡ f)))
+    go : (b : Bool) → ltb t f ≡ b → (d : Bool) → leb ((t - f) / 10000) 65535 ≡ d → (n ≡ behind_by f t) × ((t < f) × ((1 ≤ n) × (n < 4294967295 → t + n ≡ f)))
     go true e d g =
-        let q : ◌≡◌ {A = Nanos} (record { 0 = behindBy f t }) (record { 0 = n }) = cc in
-        let z : behindBy f t ≡ n = ap (λ (x : Nanos). x.0) q in
+        let q : ◌≡◌ {A = Nanos} (record { 0 = behind_by f t }) (record { 0 = n }) = cc in
+        let z : behind_by f t ≡ n = ap (λ (x : Nanos). x.0) q in
         let o : t < f = ltb-true t f e in
         (sym z, (o, (omega arith, λ u. omega arith)))
     go false e true g = never (cc)
     go false e false g = never (cc)
 
 -- the recovered time of an offset is the header time and that many ticks
-pub recovered-exact : (h : Time) (k : ℕ) → h.sec ≤ 281474976710655 → h.nano ≤ 999999999 → k ≤ 65535 → ns (recoveredOf h k) ≡ ns h + k * 10000
-unfolding recoveredOf
-recovered-exact h k s n m = omega arith
+pub recovered_exact : (h : Time) (k : ℕ) → h.sec ≤ 281474976710655 → h.nano ≤ 999999999 → k ≤ 65535 → ns (recovered_of h k) ≡ ns h + k * 10000
+unfolding recovered_of
+recovered_exact h k s n m = omega arith
 
 -- so it is never after the measured time and less than 10,000 ns before it, across a second's edge too
-pub recovered-within : (h t : Time) (k : ℕ) → h.sec ≤ 281474976710655 → h.nano ≤ 999999999 → k ≤ 65535 → elapsed (ns h) (ns t) ≡ Elapsed.Ticks (record { 0 = k })
-    → (ns (recoveredOf h k) ≤ ns t) × (ns t < ns (recoveredOf h k) + 10000)
-recovered-within h t k s n m e = rw (recovered-exact h k s n m) (within (ns h) (ns t) k e)
+pub recovered_within : (h t : Time) (k : ℕ) → h.sec ≤ 281474976710655 → h.nano ≤ 999999999 → k ≤ 65535 → elapsed (ns h) (ns t) ≡ Elapsed.Ticks (record { 0 = k })
+    → (ns (recovered_of h k) ≤ ns t) × (ns t < ns (recovered_of h k) + 10000)
+recovered_within h t k s n m e = rw (recovered_exact h k s n m) (within (ns h) (ns t) k e)
 
 -- the two cases of the code: the seconds fit 64 bits, or are cut there
-pub recovered-fits : (h : Time) (k p : ℕ) → p ≡ k * 10000 → h.sec + (h.nano + p) / 1000000000 ≤ 18446744073709551615
-    → ◌≡◌ {A = Time} (record { sec = h.sec + (h.nano + p) / 1000000000; nano = (h.nano + p) % 1000000000 }) (recoveredOf h k)
-unfolding recoveredOf
-recovered-fits h k p e f =
+pub recovered_fits : (h : Time) (k p : ℕ) → p ≡ k * 10000 → h.sec + (h.nano + p) / 1000000000 ≤ 18446744073709551615
+    → ◌≡◌ {A = Time} (record { sec = h.sec + (h.nano + p) / 1000000000; nano = (h.nano + p) % 1000000000 }) (recovered_of h k)
+unfolding recovered_of
+recovered_fits h k p e f =
     let m : h.sec + (h.nano + p) / 1000000000 ≡ min (h.sec + (h.nano + p) / 1000000000) 18446744073709551615 = omega arith in
     rw (← e) (ap (λ (s : ℕ). record { sec = s; nano = (h.nano + p) % 1000000000 }) m)
 
-pub recovered-cut : (h : Time) (k p : ℕ) → p ≡ k * 10000 → 18446744073709551615 < h.sec + (h.nano + p) / 1000000000
-    → ◌≡◌ {A = Time} (record { sec = 18446744073709551615; nano = (h.nano + p) % 1000000000 }) (recoveredOf h k)
-unfolding recoveredOf
-recovered-cut h k p e f =
+pub recovered_cut : (h : Time) (k p : ℕ) → p ≡ k * 10000 → 18446744073709551615 < h.sec + (h.nano + p) / 1000000000
+    → ◌≡◌ {A = Time} (record { sec = 18446744073709551615; nano = (h.nano + p) % 1000000000 }) (recovered_of h k)
+unfolding recovered_of
+recovered_cut h k p e f =
     let m : 18446744073709551615 ≡ min (h.sec + (h.nano + p) / 1000000000) 18446744073709551615 = omega arith in
     rw (← e) (ap (λ (s : ℕ). record { sec = s; nano = (h.nano + p) % 1000000000 }) m)

@@ -44,128 +44,128 @@ use Rattle.codec.proofs.item.write_item.Reads as write-item
 use Rattle.codec.proofs.header.write_header.Reads as write-header
 use Rattle.codec.proofs.field.part_at.Reads as part_at
 
-pub read-flags-unique : (κs : _) (a : _) (r r' : _) (x x' : _) → read-Flags.Post κs a r x → read-Flags.Post κs a r' x' → r ≡ r'
-read-flags-unique κs a r r' x x' p q = p ∙ sym q
+pub read_flags_unique : (κs : _) (a : _) (r r' : _) (x x' : _) → read-Flags.Post κs a r x → read-Flags.Post κs a r' x' → r ≡ r'
+read_flags_unique κs a r r' x x' p q = p ∙ sym q
 
-pub read-state-unique : (κs : _) (a : _) (r r' : _) (x x' : _) → read-state.Post κs a r x → read-state.Post κs a r' x' → r ≡ r'
-read-state-unique κs a r r' x x' p q = p ∙ sym q
+pub read_state_unique : (κs : _) (a : _) (r r' : _) (x x' : _) → read-state.Post κs a r x → read-state.Post κs a r' x' → r ≡ r'
+read_state_unique κs a r r' x x' p q = p ∙ sym q
 
-pub read-ident-unique : (κs : _) (a : _) (r r' : _) (x x' : _) → read-ident.Post κs a r x → read-ident.Post κs a r' x' → r ≡ r'
-read-ident-unique κs a r r' x x' p q = p ∙ sym q
+pub read_ident_unique : (κs : _) (a : _) (r r' : _) (x x' : _) → read-ident.Post κs a r x → read-ident.Post κs a r' x' → r ≡ r'
+read_ident_unique κs a r r' x x' p q = p ∙ sym q
 
-pub read-load-unique : (κs : _) (a : _) (r r' : _) (x x' : _) → read-load.Post κs a r x → read-load.Post κs a r' x' → r ≡ r'
-read-load-unique κs a r r' x x' p q = p ∙ sym q
+pub read_load_unique : (κs : _) (a : _) (r r' : _) (x x' : _) → read-load.Post κs a r x → read-load.Post κs a r' x' → r ≡ r'
+read_load_unique κs a r r' x x' p q = p ∙ sym q
 
-pub read-item-unique : (κs : _) (a : _) (r r' : _) (x x' : _) → read-item.Post κs a r x → read-item.Post κs a r' x' → r ≡ r'
-read-item-unique κs a r r' x x' p q = p ∙ sym q
+pub read_item_unique : (κs : _) (a : _) (r r' : _) (x x' : _) → read-item.Post κs a r x → read-item.Post κs a r' x' → r ≡ r'
+read_item_unique κs a r r' x x' p q = p ∙ sym q
 
-pub read-header-unique : (κs : _) (a : _) (r r' : _) (x x' : _) → read-header.Post κs a r x → read-header.Post κs a r' x' → r ≡ r'
-read-header-unique κs a r r' x x' p q = p ∙ sym q
+pub read_header_unique : (κs : _) (a : _) (r r' : _) (x x' : _) → read-header.Post κs a r x → read-header.Post κs a r' x' → r ≡ r'
+read_header_unique κs a r r' x x' p q = p ∙ sym q
 
-pub kind-in-unique : (κs : _) (a : _) (r r' : _) (x x' : _) → kind-in.Post κs a r x → kind-in.Post κs a r' x' → r ≡ r'
-kind-in-unique κs a r r' x x' p q = p ∙ sym q
+pub kind_in_unique : (κs : _) (a : _) (r r' : _) (x x' : _) → kind-in.Post κs a r x → kind-in.Post κs a r' x' → r ≡ r'
+kind_in_unique κs a r r' x x' p q = p ∙ sym q
 
-pub kind-of-unique : (κs : _) (a : _) (r r' : _) (x x' : _) → kind-of.Post κs a r x → kind-of.Post κs a r' x' → r ≡ r'
-kind-of-unique κs a r r' x x' p q = p ∙ sym q
+pub kind_of_unique : (κs : _) (a : _) (r r' : _) (x x' : _) → kind-of.Post κs a r x → kind-of.Post κs a r' x' → r ≡ r'
+kind_of_unique κs a r r' x x' p q = p ∙ sym q
 
-pub can-zero-unique : (κs : _) (a : _) (r r' : _) (x x' : _) → can-zero.Post κs a r x → can-zero.Post κs a r' x' → r ≡ r'
-can-zero-unique κs a r r' x x' p q = p ∙ sym q
+pub can_zero_unique : (κs : _) (a : _) (r r' : _) (x x' : _) → can-zero.Post κs a r x → can-zero.Post κs a r' x' → r ≡ r'
+can_zero_unique κs a r r' x x' p q = p ∙ sym q
 
-pub can-range-unique : (κs : _) (a : _) (r r' : _) (x x' : _) → can-range.Post κs a r x → can-range.Post κs a r' x' → r ≡ r'
-can-range-unique κs a r r' x x' p q = p ∙ sym q
+pub can_range_unique : (κs : _) (a : _) (r r' : _) (x x' : _) → can-range.Post κs a r x → can-range.Post κs a r' x' → r ≡ r'
+can_range_unique κs a r r' x x' p q = p ∙ sym q
 
-pub can-fd-unique : (κs : _) (a : _) (r r' : _) (x x' : _) → can-fd.Post κs a r x → can-fd.Post κs a r' x' → r ≡ r'
-can-fd-unique κs a r r' x x' p q = p ∙ sym q
+pub can_fd_unique : (κs : _) (a : _) (r r' : _) (x x' : _) → can-fd.Post κs a r x → can-fd.Post κs a r' x' → r ≡ r'
+can_fd_unique κs a r r' x x' p q = p ∙ sym q
 
-pub pid-ok-unique : (κs : _) (a : _) (r r' : _) (x x' : _) → pid-ok.Post κs a r x → pid-ok.Post κs a r' x' → r ≡ r'
-pid-ok-unique κs a r r' x x' p q = p ∙ sym q
+pub pid_ok_unique : (κs : _) (a : _) (r r' : _) (x x' : _) → pid-ok.Post κs a r x → pid-ok.Post κs a r' x' → r ≡ r'
+pid_ok_unique κs a r r' x x' p q = p ∙ sym q
 
-pub channels-ok-unique : (κs : _) (a : _) (r r' : _) (x x' : _) → channels-ok.Post κs a r x → channels-ok.Post κs a r' x' → r ≡ r'
-channels-ok-unique κs a r r' x x' p q = p ∙ sym q
+pub channels_ok_unique : (κs : _) (a : _) (r r' : _) (x x' : _) → channels-ok.Post κs a r x → channels-ok.Post κs a r' x' → r ≡ r'
+channels_ok_unique κs a r r' x x' p q = p ∙ sym q
 
-pub flexray-range-unique : (κs : _) (a : _) (r r' : _) (x x' : _) → flexray-range.Post κs a r x → flexray-range.Post κs a r' x' → r ≡ r'
-flexray-range-unique κs a r r' x x' p q = p ∙ sym q
+pub flexray_range_unique : (κs : _) (a : _) (r r' : _) (x x' : _) → flexray-range.Post κs a r x → flexray-range.Post κs a r' x' → r ≡ r'
+flexray_range_unique κs a r r' x x' p q = p ∙ sym q
 
-pub ident-ok-unique : (κs : _) (a : _) (r r' : _) (x x' : _) → ident-ok.Post κs a r x → ident-ok.Post κs a r' x' → r ≡ r'
-ident-ok-unique κs a r r' x x' p q = p ∙ sym q
+pub ident_ok_unique : (κs : _) (a : _) (r r' : _) (x x' : _) → ident-ok.Post κs a r x → ident-ok.Post κs a r' x' → r ≡ r'
+ident_ok_unique κs a r r' x x' p q = p ∙ sym q
 
-pub set-ok-unique : (κs : _) (a : _) (r r' : _) (x x' : _) → set-ok.Post κs a r x → set-ok.Post κs a r' x' → r ≡ r'
-set-ok-unique κs a r r' x x' p q = p ∙ sym q
+pub set-ok_unique : (κs : _) (a : _) (r r' : _) (x x' : _) → set-ok.Post κs a r x → set-ok.Post κs a r' x' → r ≡ r'
+set-ok_unique κs a r r' x x' p q = p ∙ sym q
 
-pub lin-zero-unique : (κs : _) (a : _) (r r' : _) (x x' : _) → lin-zero.Post κs a r x → lin-zero.Post κs a r' x' → r ≡ r'
-lin-zero-unique κs a r r' x x' p q = p ∙ sym q
+pub lin_zero_unique : (κs : _) (a : _) (r r' : _) (x x' : _) → lin-zero.Post κs a r x → lin-zero.Post κs a r' x' → r ≡ r'
+lin_zero_unique κs a r r' x x' p q = p ∙ sym q
 
-pub state-ok-unique : (κs : _) (a : _) (r r' : _) (x x' : _) → state-ok.Post κs a r x → state-ok.Post κs a r' x' → r ≡ r'
-state-ok-unique κs a r r' x x' p q = p ∙ sym q
+pub state_ok_unique : (κs : _) (a : _) (r r' : _) (x x' : _) → state-ok.Post κs a r x → state-ok.Post κs a r' x' → r ≡ r'
+state_ok_unique κs a r r' x x' p q = p ∙ sym q
 
-pub item-ok-unique : (κs : _) (a : _) (r r' : _) (x x' : _) → Item-ok.Post κs a r x → Item-ok.Post κs a r' x' → r ≡ r'
-item-ok-unique κs a r r' x x' p q = p ∙ sym q
+pub item_ok_unique : (κs : _) (a : _) (r r' : _) (x x' : _) → Item-ok.Post κs a r x → Item-ok.Post κs a r' x' → r ≡ r'
+item_ok_unique κs a r r' x x' p q = p ∙ sym q
 
-pub low8-unique : (κs : _) (a : _) (r r' : _) (x x' : _) → low8.Post κs a r x → low8.Post κs a r' x' → r ≡ r'
-low8-unique κs a r r' x x' p q = p ∙ sym q
+pub low8_unique : (κs : _) (a : _) (r r' : _) (x x' : _) → low8.Post κs a r x → low8.Post κs a r' x' → r ≡ r'
+low8_unique κs a r r' x x' p q = p ∙ sym q
 
-pub get8-unique : (κs : _) (a : _) (r r' : _) (x x' : _) → get8.Post κs a r x → get8.Post κs a r' x' → r ≡ r'
-get8-unique κs a r r' x x' p q = p ∙ sym q
+pub get8_unique : (κs : _) (a : _) (r r' : _) (x x' : _) → get8.Post κs a r x → get8.Post κs a r' x' → r ≡ r'
+get8_unique κs a r r' x x' p q = p ∙ sym q
 
-pub get16-unique : (κs : _) (a : _) (r r' : _) (x x' : _) → get16.Post κs a r x → get16.Post κs a r' x' → r ≡ r'
-get16-unique κs a r r' x x' p q = p ∙ sym q
+pub get16_unique : (κs : _) (a : _) (r r' : _) (x x' : _) → get16.Post κs a r x → get16.Post κs a r' x' → r ≡ r'
+get16_unique κs a r r' x x' p q = p ∙ sym q
 
-pub get32-unique : (κs : _) (a : _) (r r' : _) (x x' : _) → get32.Post κs a r x → get32.Post κs a r' x' → r ≡ r'
-get32-unique κs a r r' x x' p q = p ∙ sym q
+pub get32_unique : (κs : _) (a : _) (r r' : _) (x x' : _) → get32.Post κs a r x → get32.Post κs a r' x' → r ≡ r'
+get32_unique κs a r r' x x' p q = p ∙ sym q
 
-pub get-part-unique : (κs : _) (a : _) (r r' : _) (x x' : _) → get-part.Post κs a r x → get-part.Post κs a r' x' → r ≡ r'
-get-part-unique κs a r r' x x' p q = p ∙ sym q
+pub get_part_unique : (κs : _) (a : _) (r r' : _) (x x' : _) → get-part.Post κs a r x → get-part.Post κs a r' x' → r ≡ r'
+get_part_unique κs a r r' x x' p q = p ∙ sym q
 
-pub number-of-unique : (κs : _) (a : _) (r r' : _) (x x' : _) → number_of_lem.Post κs a r x → number_of_lem.Post κs a r' x' → r ≡ r'
-number-of-unique κs a r r' x x' p q = p ∙ sym q
+pub number_of_unique : (κs : _) (a : _) (r r' : _) (x x' : _) → number_of_lem.Post κs a r x → number_of_lem.Post κs a r' x' → r ≡ r'
+number_of_unique κs a r r' x x' p q = p ∙ sym q
 
-pub in-range-unique : (κs : _) (a : _) (r r' : _) (x x' : _) → in-range.Post κs a r x → in-range.Post κs a r' x' → r ≡ r'
-in-range-unique κs a r r' x x' p q = p ∙ sym q
+pub in_range_unique : (κs : _) (a : _) (r r' : _) (x x' : _) → in-range.Post κs a r x → in-range.Post κs a r' x' → r ≡ r'
+in_range_unique κs a r r' x x' p q = p ∙ sym q
 
-pub ticks-of-nanos-unique : (κs : _) (a : _) (r r' : _) (x x' : _) → ticks-of-nanos.Post κs a r x → ticks-of-nanos.Post κs a r' x' → r ≡ r'
-ticks-of-nanos-unique κs a r r' x x' p q = p ∙ sym q
+pub ticks_of_nanos_unique : (κs : _) (a : _) (r r' : _) (x x' : _) → ticks-of-nanos.Post κs a r x → ticks-of-nanos.Post κs a r' x' → r ≡ r'
+ticks_of_nanos_unique κs a r r' x x' p q = p ∙ sym q
 
-pub measure-unique : (κs : _) (a : _) (r r' : _) (x x' : _) → measure.Post κs a r x → measure.Post κs a r' x' → r ≡ r'
-measure-unique κs a r r' x x' p q = p ∙ sym q
+pub measure_unique : (κs : _) (a : _) (r r' : _) (x x' : _) → measure.Post κs a r x → measure.Post κs a r' x' → r ≡ r'
+measure_unique κs a r r' x x' p q = p ∙ sym q
 
-pub overdue-unique : (κs : _) (a : _) (r r' : _) (x x' : _) → overdue.Post κs a r x → overdue.Post κs a r' x' → r ≡ r'
-overdue-unique κs a r r' x x' p q = p ∙ sym q
+pub overdue_unique : (κs : _) (a : _) (r r' : _) (x x' : _) → overdue.Post κs a r x → overdue.Post κs a r' x' → r ≡ r'
+overdue_unique κs a r r' x x' p q = p ∙ sym q
 
-pub recovered-unique : (κs : _) (a : _) (r r' : _) (x x' : _) → recovered.Post κs a r x → recovered.Post κs a r' x' → r ≡ r'
-recovered-unique κs a r r' x x' p q = p ∙ sym q
+pub recovered_unique : (κs : _) (a : _) (r r' : _) (x x' : _) → recovered.Post κs a r x → recovered.Post κs a r' x' → r ≡ r'
+recovered_unique κs a r r' x x' p q = p ∙ sym q
 
-pub network-type-unique : (κs : _) (a : _) (r r' : _) (x x' : _) → network-type.Post κs a r x → network-type.Post κs a r' x' → r ≡ r'
-network-type-unique κs a r r' x x' p q = p.is ∙ sym q.is
+pub network_type_unique : (κs : _) (a : _) (r r' : _) (x x' : _) → network-type.Post κs a r x → network-type.Post κs a r' x' → r ≡ r'
+network_type_unique κs a r r' x x' p q = p.is ∙ sym q.is
 
-pub most-of-unique : (κs : _) (a : _) (r r' : _) (x x' : _) → most-of.Post κs a r x → most-of.Post κs a r' x' → r ≡ r'
-most-of-unique κs a r r' x x' p q = p.is ∙ sym q.is
+pub most_of_unique : (κs : _) (a : _) (r r' : _) (x x' : _) → most-of.Post κs a r x → most-of.Post κs a r' x' → r ≡ r'
+most_of_unique κs a r r' x x' p q = p.is ∙ sym q.is
 
-pub item-len-unique : (κs : _) (a : _) (r r' : _) (x x' : _) → item-len.Post κs a r x → item-len.Post κs a r' x' → r ≡ r'
-item-len-unique κs a r r' x x' p q = p.is ∙ sym q.is
+pub item_len_unique : (κs : _) (a : _) (r r' : _) (x x' : _) → item-len.Post κs a r x → item-len.Post κs a r' x' → r ≡ r'
+item_len_unique κs a r r' x x' p q = p.is ∙ sym q.is
 
-pub word-at-unique : (κs : _) (a : _) (r r' : _) (x x' : _) → word_at.Post κs a r x → word_at.Post κs a r' x' → r ≡ r'
-word-at-unique κs a r r' x x' p q = p.is ∙ sym q.is
+pub word-at_unique : (κs : _) (a : _) (r r' : _) (x x' : _) → word_at.Post κs a r x → word_at.Post κs a r' x' → r ≡ r'
+word-at_unique κs a r r' x x' p q = p.is ∙ sym q.is
 
-pub nanos-of-ticks-unique : (κs : _) (a : _) (r r' : _) (x x' : _) → nanos-of-ticks.Post κs a r x → nanos-of-ticks.Post κs a r' x' → r ≡ r'
-nanos-of-ticks-unique κs a r r' x x' p q = ap (λ (n : ℕ). record { 0 = n }) (p.is ∙ sym q.is)
+pub nanos_of_ticks_unique : (κs : _) (a : _) (r r' : _) (x x' : _) → nanos-of-ticks.Post κs a r x → nanos-of-ticks.Post κs a r' x' → r ≡ r'
+nanos_of_ticks_unique κs a r r' x x' p q = ap (λ (n : ℕ). record { 0 = n }) (p.is ∙ sym q.is)
 
-pub millis-of-nanos-unique : (κs : _) (a : _) (r r' : _) (x x' : _) → millis-of-nanos.Post κs a r x → millis-of-nanos.Post κs a r' x' → r ≡ r'
-millis-of-nanos-unique κs a r r' x x' p q = ap (λ (n : ℕ). record { 0 = n }) (p.is ∙ sym q.is)
+pub millis_of_nanos_unique : (κs : _) (a : _) (r r' : _) (x x' : _) → millis-of-nanos.Post κs a r x → millis-of-nanos.Post κs a r' x' → r ≡ r'
+millis_of_nanos_unique κs a r r' x x' p q = ap (λ (n : ℕ). record { 0 = n }) (p.is ∙ sym q.is)
 
-pub nanos-of-millis-unique : (κs : _) (a : _) (r r' : _) (x x' : _) → nanos-of-millis.Post κs a r x → nanos-of-millis.Post κs a r' x' → r ≡ r'
-nanos-of-millis-unique κs a r r' x x' p q = ap (λ (n : ℕ). record { 0 = n }) (p.is ∙ sym q.is)
+pub nanos_of_millis_unique : (κs : _) (a : _) (r r' : _) (x x' : _) → nanos-of-millis.Post κs a r x → nanos-of-millis.Post κs a r' x' → r ≡ r'
+nanos_of_millis_unique κs a r r' x x' p q = ap (λ (n : ℕ). record { 0 = n }) (p.is ∙ sym q.is)
 
-pub put-be-unique : (κs : _) (a : _) (r r' : _) (x x' : _) → put-be.Post κs a r x → put-be.Post κs a r' x' → (r ≡ r') × (x.0.now ≡ x'.0.now)
-put-be-unique κs a r r' x x' p q = (p.answer ∙ sym q.answer, p.list ∙ sym q.list)
+pub put_be_unique : (κs : _) (a : _) (r r' : _) (x x' : _) → put-be.Post κs a r x → put-be.Post κs a r' x' → (r ≡ r') × (x.0.now ≡ x'.0.now)
+put_be_unique κs a r r' x x' p q = (p.answer ∙ sym q.answer, p.list ∙ sym q.list)
 
-pub put-bytes-unique : (κs : _) (a : _) (r r' : _) (x x' : _) → put-bytes.Post κs a r x → put-bytes.Post κs a r' x' → (r ≡ r') × (x.0.now ≡ x'.0.now)
-put-bytes-unique κs a r r' x x' p q = (p.answer ∙ sym q.answer, p.list ∙ sym q.list)
+pub put_bytes_unique : (κs : _) (a : _) (r r' : _) (x x' : _) → put-bytes.Post κs a r x → put-bytes.Post κs a r' x' → (r ≡ r') × (x.0.now ≡ x'.0.now)
+put_bytes_unique κs a r r' x x' p q = (p.answer ∙ sym q.answer, p.list ∙ sym q.list)
 
-pub write-item-unique : (κs : _) (a : _) (r r' : _) (x x' : _) → write-item.Post κs a r x → write-item.Post κs a r' x' → (r ≡ r') × (x.0.now ≡ x'.0.now)
-write-item-unique κs a r r' x x' p q = (p.answer ∙ sym q.answer, p.list ∙ sym q.list)
+pub write_item_unique : (κs : _) (a : _) (r r' : _) (x x' : _) → write-item.Post κs a r x → write-item.Post κs a r' x' → (r ≡ r') × (x.0.now ≡ x'.0.now)
+write_item_unique κs a r r' x x' p q = (p.answer ∙ sym q.answer, p.list ∙ sym q.list)
 
-pub write-header-unique : (κs : _) (a : _) (r r' : _) (x x' : _) → write-header.Post κs a r x → write-header.Post κs a r' x' → (r ≡ r') × (x.0.now ≡ x'.0.now)
-write-header-unique κs a r r' x x' p q = (p.answer ∙ sym q.answer, p.list ∙ sym q.list)
+pub write_header_unique : (κs : _) (a : _) (r r' : _) (x x' : _) → write-header.Post κs a r x → write-header.Post κs a r' x' → (r ≡ r') × (x.0.now ≡ x'.0.now)
+write_header_unique κs a r r' x x' p q = (p.answer ∙ sym q.answer, p.list ∙ sym q.list)
 
-pub part-at-unique : (κs : _) (a : _) (r r' : _) (x x' : _) → part_at.Post κs a r x → part_at.Post κs a r' x' → r.now ≡ r'.now
-part-at-unique κs a r r' x x' p q = p ∙ sym q
+pub part_at_unique : (κs : _) (a : _) (r r' : _) (x x' : _) → part_at.Post κs a r x → part_at.Post κs a r' x' → r.now ≡ r'.now
+part_at_unique κs a r r' x x' p q = p ∙ sym q

@@ -3,13 +3,13 @@ use Prim.Native.Nat.{ℕ}
 use mathlib.Core.Path.{◌≡◌, refl}
 use mathlib.Core.Bool.{true, false}
 use mathlib.Core.List.{List, [], ◌∷◌, map}
-use Rattle.codec.specs.Number.{word, fits, get8Of, get16Of, get32Of, part_of}
-use Rattle.codec.specs.Ident.{kindIn, canZero, canRange, canFd, evenParity, oddParity, pidOk, flexrayRange, identBytes}
+use Rattle.codec.specs.Number.{word, fits, get8_of, get16_of, get32_of, part_of}
+use Rattle.codec.specs.Ident.{kind_in, can_zero, can_range, can_fd, even_parity, odd_parity, pid_ok, flexray_range, ident_bytes}
 use Rattle.codec.specs.Item.{encode}
-use Rattle.codec.specs.Field.{readFlags, readState, canIdent, flexrayIdent, readCan, readLin, linIdent, readFlexray, frameIdent, errorIdent, readIdent, readLoad, readItem, bytes_at}
-use Rattle.codec.specs.Header.{readHeader}
-use Rattle.codec.specs.Time.{ns, elapsed, ticksOf, recoveredOf}
-use Rattle.codec.proofs.PidLaws.{pidOf}
+use Rattle.codec.specs.Field.{read_flags, read_state, can_ident, flexray_ident, read_can, read_lin, lin_ident, read_flexray, frame_ident, error_ident, read_ident, read_load, read_item, bytes_at}
+use Rattle.codec.specs.Header.{read_header}
+use Rattle.codec.specs.Time.{ns, elapsed, ticks_of, recovered_of}
+use Rattle.codec.proofs.PidLaws.{pid_of}
 use Rattle.codec.specs.declared.time.Time.{Time}
 use Rattle.codec.specs.declared.time.Elapsed.{Elapsed}
 use Rattle.codec.specs.declared.time.Elapsed.TheVariants as Elapsed
@@ -36,21 +36,21 @@ one = record { offset = record { 0 = 0 }; network = 5; state = State.Absent; ide
 abbrev two : Item
 two = record { offset = record { 0 = 2 }; network = 5; state = State.Byte 0x40; ident = Ident.Can 0xc1abcdef; carries = true }
 
-header : readHeader frame ≡ HeaderRead.Got (record { sequence = 0; time = record { sec = 16; nano = 0 }; length = 22 })
-unfolding readHeader word
+header : read_header frame ≡ HeaderRead.Got (record { sequence = 0; time = record { sec = 16; nano = 0 }; length = 22 })
+unfolding read_header word
 header = refl
 
-item-one : readItem frame 14 ≡ ItemRead.Got one 23 2 25
-unfolding readItem readFlags readState readIdent readCan canIdent readLoad get8Of get16Of get32Of part_of fits word kindIn canZero canRange canFd
-item-one = refl
+item_one : read_item frame 14 ≡ ItemRead.Got one 23 2 25
+unfolding read_item read_flags read_state read_ident read_can can_ident read_load get8_of get16_of get32_of part_of fits word kind_in can_zero can_range can_fd
+item_one = refl
 
-item-two : readItem frame 25 ≡ ItemRead.Got two 35 1 36
-unfolding readItem readFlags readState readIdent readCan canIdent readLoad get8Of get16Of get32Of part_of fits word kindIn canZero canRange canFd
-item-two = refl
+item_two : read_item frame 25 ≡ ItemRead.Got two 35 1 36
+unfolding read_item read_flags read_state read_ident read_can can_ident read_load get8_of get16_of get32_of part_of fits word kind_in can_zero can_range can_fd
+item_two = refl
 
-payload-one : bytes_at frame 23 2 ≡ 0x01 ∷ 0x02 ∷ []
+payload_one : bytes_at frame 23 2 ≡ 0x01 ∷ 0x02 ∷ []
 unfolding bytes_at fits
-payload-one = refl
+payload_one = refl
 
 -- the first item as bytes
 written : encode one (0x01 ∷ 0x02 ∷ []) ≡ 0x00 ∷ 0x00 ∷ 0x61 ∷ 0x05 ∷ 0x00 ∷ 0x00 ∷ 0x01 ∷ 0x23 ∷ 0x02 ∷ 0x01 ∷ 0x02 ∷ []
@@ -58,69 +58,69 @@ unfolding encode
 written = refl
 
 -- a FlexRay id on both channels, slot 1027, cycle 63, there and back
-flexray : identBytes (Ident.FlexRay 3 1027 63) ≡ 0xcc ∷ 0x03 ∷ 0x3f ∷ []
+flexray : ident_bytes (Ident.FlexRay 3 1027 63) ≡ 0xcc ∷ 0x03 ∷ 0x3f ∷ []
 flexray = refl
 
-flexray-back : readIdent (0xcc ∷ 0x03 ∷ 0x3f ∷ []) 0 Kind.FlexRay true false ≡ IdentRead.Got (Ident.FlexRay 3 1027 63) 3
-unfolding readIdent readFlexray flexrayIdent frameIdent part_of fits flexrayRange
-flexray-back = refl
+flexray_back : read_ident (0xcc ∷ 0x03 ∷ 0x3f ∷ []) 0 Kind.FlexRay true false ≡ IdentRead.Got (Ident.FlexRay 3 1027 63) 3
+unfolding read_ident read_flexray flexray_ident frame_ident part_of fits flexray_range
+flexray_back = refl
 
 -- an error without a frame on both channels, there and back with state and id alone; with a payload; with a slot or a cycle
-error : identBytes (Ident.FlexRayError 3) ≡ 0xc0 ∷ 0x00 ∷ 0x00 ∷ []
+error : ident_bytes (Ident.FlexRayError 3) ≡ 0xc0 ∷ 0x00 ∷ 0x00 ∷ []
 error = refl
 
-error-back : readIdent (0xc0 ∷ 0x00 ∷ 0x00 ∷ []) 0 Kind.FlexRay true true ≡ IdentRead.Got (Ident.FlexRayError 3) 3
-unfolding readIdent readFlexray flexrayIdent errorIdent part_of fits
-error-back = refl
+error_back : read_ident (0xc0 ∷ 0x00 ∷ 0x00 ∷ []) 0 Kind.FlexRay true true ≡ IdentRead.Got (Ident.FlexRayError 3) 3
+unfolding read_ident read_flexray flexray_ident error_ident part_of fits
+error_back = refl
 
-error-loaded : readIdent (0xc0 ∷ 0x00 ∷ 0x00 ∷ []) 0 Kind.FlexRay true false ≡ IdentRead.Refused Refusal.Reserved
-unfolding readIdent readFlexray flexrayIdent part_of fits
-error-loaded = refl
+error_loaded : read_ident (0xc0 ∷ 0x00 ∷ 0x00 ∷ []) 0 Kind.FlexRay true false ≡ IdentRead.Refused Refusal.Reserved
+unfolding read_ident read_flexray flexray_ident part_of fits
+error_loaded = refl
 
-error-slotted : readIdent (0xc1 ∷ 0x00 ∷ 0x00 ∷ []) 0 Kind.FlexRay true true ≡ IdentRead.Refused Refusal.Range
-unfolding readIdent readFlexray flexrayIdent errorIdent part_of fits
-error-slotted = refl
+error_slotted : read_ident (0xc1 ∷ 0x00 ∷ 0x00 ∷ []) 0 Kind.FlexRay true true ≡ IdentRead.Refused Refusal.Range
+unfolding read_ident read_flexray flexray_ident error_ident part_of fits
+error_slotted = refl
 
-error-cycled : readIdent (0xc0 ∷ 0x00 ∷ 0x01 ∷ []) 0 Kind.FlexRay true true ≡ IdentRead.Refused Refusal.Range
-unfolding readIdent readFlexray flexrayIdent errorIdent part_of fits
-error-cycled = refl
+error_cycled : read_ident (0xc0 ∷ 0x00 ∷ 0x01 ∷ []) 0 Kind.FlexRay true true ≡ IdentRead.Refused Refusal.Range
+unfolding read_ident read_flexray flexray_ident error_ident part_of fits
+error_cycled = refl
 
 -- the PIDs of ids 0, 1, 2, 3C, 3D and 3F hexadecimal
-pids : map pidOf (0x00 ∷ 0x01 ∷ 0x02 ∷ 0x3c ∷ 0x3d ∷ 0x3f ∷ []) ≡ 0x80 ∷ 0xc1 ∷ 0x42 ∷ 0x3c ∷ 0x7d ∷ 0xbf ∷ []
+pids : map pid_of (0x00 ∷ 0x01 ∷ 0x02 ∷ 0x3c ∷ 0x3d ∷ 0x3f ∷ []) ≡ 0x80 ∷ 0xc1 ∷ 0x42 ∷ 0x3c ∷ 0x7d ∷ 0xbf ∷ []
 pids = refl
 
 -- a LIN id read: the right PID of id 3D, and the same id with P0 fallen
-lin-back : readIdent (0x7d ∷ []) 0 Kind.Lin true false ≡ IdentRead.Got (Ident.Lin 0x7d) 1
-unfolding readIdent readLin linIdent get8Of fits pidOk evenParity oddParity
-lin-back = refl
+lin_back : read_ident (0x7d ∷ []) 0 Kind.Lin true false ≡ IdentRead.Got (Ident.Lin 0x7d) 1
+unfolding read_ident read_lin lin_ident get8_of fits pid_ok even_parity odd_parity
+lin_back = refl
 
-lin-broken : readIdent (0x3d ∷ []) 0 Kind.Lin true false ≡ IdentRead.Refused Refusal.Range
-unfolding readIdent readLin linIdent get8Of fits pidOk evenParity oddParity
-lin-broken = refl
+lin_broken : read_ident (0x3d ∷ []) 0 Kind.Lin true false ≡ IdentRead.Refused Refusal.Range
+unfolding read_ident read_lin lin_ident get8_of fits pid_ok even_parity odd_parity
+lin_broken = refl
 
 -- P2 to P5 (docs/RULES.md, "Worked examples") on the measure
-under-a-tick : elapsed 0 9999 ≡ Elapsed.Ticks (record { 0 = 0 })
-unfolding elapsed ticksOf
-under-a-tick = refl
+under_a_tick : elapsed 0 9999 ≡ Elapsed.Ticks (record { 0 = 0 })
+unfolding elapsed ticks_of
+under_a_tick = refl
 
-one-tick : elapsed 0 10000 ≡ Elapsed.Ticks (record { 0 = 1 })
-unfolding elapsed ticksOf
-one-tick = refl
+one_tick : elapsed 0 10000 ≡ Elapsed.Ticks (record { 0 = 1 })
+unfolding elapsed ticks_of
+one_tick = refl
 
-last-tick : elapsed 0 655359999 ≡ Elapsed.Ticks (record { 0 = 65535 })
-unfolding elapsed ticksOf
-last-tick = refl
+last_tick : elapsed 0 655359999 ≡ Elapsed.Ticks (record { 0 = 65535 })
+unfolding elapsed ticks_of
+last_tick = refl
 
 too_far : elapsed 0 655360000 ≡ Elapsed.TooFar
-unfolding elapsed ticksOf
+unfolding elapsed ticks_of
 too_far = refl
 
-over-the-second : elapsed (ns (record { sec = 9; nano = 999999000 })) (ns (record { sec = 10; nano = 9000 })) ≡ Elapsed.Ticks (record { 0 = 1 })
-unfolding elapsed ticksOf
-over-the-second = refl
+over_the_second : elapsed (ns (record { sec = 9; nano = 999999000 })) (ns (record { sec = 10; nano = 9000 })) ≡ Elapsed.Ticks (record { 0 = 1 })
+unfolding elapsed ticks_of
+over_the_second = refl
 
 backwards : elapsed 1 0 ≡ Elapsed.Backwards (record { 0 = 1 })
-unfolding elapsed ticksOf
+unfolding elapsed ticks_of
 backwards = refl
 
 -- a clock that stands still, and one set back by 1 ns, by 4 ms, by the most that is told, one nanosecond less and one more; over a
@@ -145,10 +145,10 @@ steps_back :
     ∷ by 1000000002 ∷ by 4 ∷ by 4294967295
     ∷ by 4294967295
     ∷ []
-unfolding elapsed ticksOf
+unfolding elapsed ticks_of
 steps_back = refl
 
 -- into the second after the last one that a header can hold
-past-the-last : recoveredOf (record { sec = 281474976710655; nano = 999990000 }) 1 ≡ record { sec = 281474976710656; nano = 0 }
-unfolding recoveredOf
-past-the-last = refl
+past_the_last : recovered_of (record { sec = 281474976710655; nano = 999990000 }) 1 ≡ record { sec = 281474976710656; nano = 0 }
+unfolding recovered_of
+past_the_last = refl

@@ -9,19 +9,19 @@ use Rattle.codec.specs.declared.header.HeaderRead.{HeaderRead}
 use Rattle.codec.specs.declared.header.HeaderRead.TheVariants as HeaderRead
 
 -- version 1, sequence number, header time (seconds 6, nanoseconds 4), DataLength (SWS_Mirror_00055 to 00063)
-unfoldable pub headerBytes : Header → List ℕ
-headerBytes h = (1 ∷ h.sequence ∷ []) ++ be 6 h.time.sec ++ be 4 h.time.nano ++ be 2 h.length
+unfoldable pub header_bytes : Header → List ℕ
+header_bytes h = (1 ∷ h.sequence ∷ []) ++ be 6 h.time.sec ++ be 4 h.time.nano ++ be 2 h.length
 
 -- the header that 14 bytes are
-abbrev pub headerIn : List ℕ → Header
-headerIn s = record { sequence = get_or s 1 0; time = record { sec = word 6 s 2; nano = word 4 s 8 }; length = word 2 s 12 }
+abbrev pub header_in : List ℕ → Header
+header_in s = record { sequence = get_or s 1 0; time = record { sec = word 6 s 2; nano = word 4 s 8 }; length = word 2 s 12 }
 
 -- 20 under 14 bytes; 21 version; 28 nanoseconds; 22 DataLength isn't the rest
-unfoldable pub readHeader : List ℕ → HeaderRead
-readHeader s =
+unfoldable pub read_header : List ℕ → HeaderRead
+read_header s =
     pick (ltb (length s) 14) (HeaderRead.Refused Refusal.Short)
     (pick (eqb (get_or s 0 0) 1)
     (pick (leb (word 4 s 8) 999999999)
-    (pick (eqb (word 2 s 12) (length s - 14)) (HeaderRead.Got (headerIn s)) (HeaderRead.Refused Refusal.Length))
+    (pick (eqb (word 2 s 12) (length s - 14)) (HeaderRead.Got (header_in s)) (HeaderRead.Refused Refusal.Length))
     (HeaderRead.Refused Refusal.Nanos))
     (HeaderRead.Refused Refusal.Version))

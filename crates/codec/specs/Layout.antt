@@ -1,8 +1,8 @@
 -- A frame: the header, then the items one after the other (docs/RULES.md, "Frame bytes"; Specification of Bus Mirroring, 7.4.2).
 use Rattle.std.specs.Prelude.{ℕ, ◌+◌, ◌^◌, ◌<◌, ◌≤◌, ◌≡◌, true, List, [], ◌∷◌, ◌++◌, length}
 use Rattle.codec.specs.Number.{Bytes}
-use Rattle.codec.specs.Header.{headerBytes}
-use Rattle.codec.specs.Item.{encode, itemOk}
+use Rattle.codec.specs.Header.{header_bytes}
+use Rattle.codec.specs.Item.{encode, item_ok}
 use Rattle.codec.specs.declared.time.Time.{Time}
 use Rattle.codec.specs.declared.ident.Ident.{Ident}
 use Rattle.codec.specs.declared.ident.Ident.TheVariants as Ident
@@ -22,7 +22,7 @@ body (e ∷ es) = encode e.item e.payload ++ body es
 
 -- DataLength is the total of the item lengths (SWS_Mirror_00062)
 unfoldable pub layout : ℕ → Time → List Entry → List ℕ
-layout sequence time es = headerBytes (record { sequence = sequence; time = time; length = length (body es) }) ++ body es
+layout sequence time es = header_bytes (record { sequence = sequence; time = time; length = length (body es) }) ++ body es
 
 -- fields within their widths
 abbrev pub StateFits : State → Type 0
@@ -38,7 +38,7 @@ IdentFits (Ident.Bare k) = Unit
 
 -- an item that may stand in a frame
 pub record Valid (e : Entry) : Type 0 where
-  pub ok : itemOk e.item (length e.payload) ≡ true
+  pub ok : item_ok e.item (length e.payload) ≡ true
   pub offset : e.item.offset.0 < 65536
   pub network : e.item.network < 256
   pub state : StateFits e.item.state

@@ -41,14 +41,14 @@ unfoldable pub fits : List ℕ → ℕ → ℕ → Bool
 fits l at n = leb (at + n) (length l)
 
 -- the value is one that can be written, and there is room
-abbrev pub fitsIn : Bool → List ℕ → ℕ → ℕ → Bool
-fitsIn true l at n = fits l at n
-fitsIn false l at n = false
+abbrev pub fits_in : Bool → List ℕ → ℕ → ℕ → Bool
+fits_in true l at n = fits l at n
+fits_in false l at n = false
 
--- where fitsIn, bs stand at index at and the answer is the index past them; else nothing changed
+-- where fits_in, bs stand at index at and the answer is the index past them; else nothing changed
 pub record Wrote (fit : Bool) (l : List ℕ) (at : ℕ) (bs : List ℕ) (l' : List ℕ) (r : Put) : Type 0 where
-  pub list : l' ≡ pick (fitsIn fit l at (length bs)) (over l at bs) l
-  pub answer : r ≡ pick (fitsIn fit l at (length bs)) (Put.Next (at + length bs)) Put.Nothing
+  pub list : l' ≡ pick (fits_in fit l at (length bs)) (over l at bs) l
+  pub answer : r ≡ pick (fits_in fit l at (length bs)) (Put.Next (at + length bs)) Put.Nothing
 
 -- bs stand at index at, and r is the index past them
 pub record Laid (l : List ℕ) (at : ℕ) (bs : List ℕ) (l' : List ℕ) (r : ℕ) : Type 0 where
@@ -84,14 +84,14 @@ unfoldable pub word_at : ℕ → List ℕ → ℕ → ℕ
 word_at n s at = pick (leb n 8) (pick (fits s at n) (word n s at) 0) 0
 
 -- a number and the index past it
-unfoldable pub get8Of : List ℕ → ℕ → Read8
-get8Of s at = pick (fits s at 1) (Read8.Got (get_or s at 0) (at + 1)) Read8.Short
+unfoldable pub get8_of : List ℕ → ℕ → Read8
+get8_of s at = pick (fits s at 1) (Read8.Got (get_or s at 0) (at + 1)) Read8.Short
 
-unfoldable pub get16Of : List ℕ → ℕ → Read16
-get16Of s at = pick (fits s at 2) (Read16.Got (word 2 s at) (at + 2)) Read16.Short
+unfoldable pub get16_of : List ℕ → ℕ → Read16
+get16_of s at = pick (fits s at 2) (Read16.Got (word 2 s at) (at + 2)) Read16.Short
 
-unfoldable pub get32Of : List ℕ → ℕ → Read32
-get32Of s at = pick (fits s at 4) (Read32.Got (word 4 s at) (at + 4)) Read32.Short
+unfoldable pub get32_of : List ℕ → ℕ → Read32
+get32_of s at = pick (fits s at 4) (Read32.Got (word 4 s at) (at + 4)) Read32.Short
 
 -- the index past n bytes at index at, where they are within s
 unfoldable pub part_of : List ℕ → ℕ → ℕ → Part
@@ -110,6 +110,6 @@ abbrev pub open32 : {A : Type 0} → Read32 → (ℕ → ℕ → A) → A → A
 open32 (Read32.Got v n) k z = k v n
 open32 Read32.Short k z = z
 
-abbrev pub openPart : {A : Type 0} → Part → (ℕ → A) → A → A
-openPart (Part.Got n) k z = k n
-openPart Part.Short k z = z
+abbrev pub open_part : {A : Type 0} → Part → (ℕ → A) → A → A
+open_part (Part.Got n) k z = k n
+open_part Part.Short k z = z

@@ -1,6 +1,6 @@
 // The fields of an item, read left to right: missing bytes before a wrong value, the first refusal straight up.
 ghost use Rattle.std.specs.Prelude.{◌≡◌};
-ghost use Rattle.codec.specs.Field.{readFlags, readState, canIdent, linIdent, frameIdent, errorIdent, flexrayIdent, readCan, readLin, readFlexray, readIdent, readLoad, readItem, bytes_at, whyFlags, whyState, whyIdent, whyLoad};
+ghost use Rattle.codec.specs.Field.{read_flags, read_state, can_ident, lin_ident, frame_ident, error_ident, flexray_ident, read_can, read_lin, read_flexray, read_ident, read_load, read_item, bytes_at, why_flags, why_state, why_ident, why_load};
 
 use crate::ident::{Ident, Kind, KindRead};
 use crate::item::{Item, State};
@@ -46,7 +46,7 @@ pub enum ItemRead {
 
 // The network type and which of state, id and payload are present.
 pub fn read_flags(s: &[u8], at: usize) -> FlagsRead
-    ensures { result ≡ readFlags s.now at }
+    ensures { result ≡ read_flags s.now at }
 {
     let Read8::Got(b, next) = crate::number::get8(s, at) else {
         return FlagsRead::Refused(Refusal::Missing);
@@ -63,7 +63,7 @@ pub fn read_flags(s: &[u8], at: usize) -> FlagsRead
 }
 
 pub fn read_state(s: &[u8], at: usize, kind: Kind, present: bool) -> StateRead
-    ensures { result ≡ readState s.now at kind present }
+    ensures { result ≡ read_state s.now at kind present }
 {
     if !present {
         return StateRead::Got(State::Absent, at);
@@ -80,7 +80,7 @@ pub fn read_state(s: &[u8], at: usize, kind: Kind, present: bool) -> StateRead
 }
 
 fn can_ident(key: u32, next: usize) -> IdentRead
-    ensures { result ≡ canIdent key next }
+    ensures { result ≡ can_ident key next }
 {
     if !crate::ident::can_zero(key) {
         return IdentRead::Refused(Refusal::Reserved);
@@ -93,7 +93,7 @@ fn can_ident(key: u32, next: usize) -> IdentRead
 }
 
 fn read_can(s: &[u8], at: usize) -> IdentRead
-    ensures { result ≡ readCan s.now at }
+    ensures { result ≡ read_can s.now at }
 {
     let Read32::Got(key, next) = crate::number::get32(s, at) else {
         return IdentRead::Refused(Refusal::Missing);
@@ -102,7 +102,7 @@ fn read_can(s: &[u8], at: usize) -> IdentRead
 }
 
 fn lin_ident(pid: u8, next: usize) -> IdentRead
-    ensures { result ≡ linIdent pid next }
+    ensures { result ≡ lin_ident pid next }
 {
     if crate::ident::pid_ok(pid as u32) {
         IdentRead::Got(Ident::Lin(pid), next)
@@ -112,7 +112,7 @@ fn lin_ident(pid: u8, next: usize) -> IdentRead
 }
 
 fn read_lin(s: &[u8], at: usize) -> IdentRead
-    ensures { result ≡ readLin s.now at }
+    ensures { result ≡ read_lin s.now at }
 {
     let Read8::Got(pid, next) = crate::number::get8(s, at) else {
         return IdentRead::Refused(Refusal::Missing);
@@ -121,7 +121,7 @@ fn read_lin(s: &[u8], at: usize) -> IdentRead
 }
 
 fn frame_ident(channels: u8, slot: u16, cycle: u8, next: usize) -> IdentRead
-    ensures { result ≡ frameIdent channels slot cycle next }
+    ensures { result ≡ frame_ident channels slot cycle next }
 {
     if crate::ident::flexray_range(channels, slot, cycle) {
         IdentRead::Got(
@@ -138,7 +138,7 @@ fn frame_ident(channels: u8, slot: u16, cycle: u8, next: usize) -> IdentRead
 }
 
 fn error_ident(channels: u8, slot: u16, cycle: u8, next: usize) -> IdentRead
-    ensures { result ≡ errorIdent channels slot cycle next }
+    ensures { result ≡ error_ident channels slot cycle next }
 {
     if crate::ident::channels_ok(channels as u32) & (slot == 0) & (cycle == 0) {
         IdentRead::Got(Ident::FlexRayError(channels), next)
@@ -150,7 +150,7 @@ fn error_ident(channels: u8, slot: u16, cycle: u8, next: usize) -> IdentRead
 // Bits 5 and 4 of the first byte are zero; bit 3 is one, or zero for an error without a frame, which is told by state
 // and id alone.
 fn flexray_ident(alone: bool, front: u8, low: u8, cycle: u8, next: usize) -> IdentRead
-    ensures { result ≡ flexrayIdent alone front low cycle next }
+    ensures { result ≡ flexray_ident alone front low cycle next }
 {
     let marks = front >> 3 & 7;
     let channels = front >> 6;
@@ -165,7 +165,7 @@ fn flexray_ident(alone: bool, front: u8, low: u8, cycle: u8, next: usize) -> Ide
 }
 
 fn read_flexray(s: &[u8], at: usize, alone: bool) -> IdentRead
-    ensures { result ≡ readFlexray s.now at alone }
+    ensures { result ≡ read_flexray s.now at alone }
 {
     let Part::Got(next) = crate::number::get_part(s, at, 3) else {
         return IdentRead::Refused(Refusal::Missing);
@@ -175,7 +175,7 @@ fn read_flexray(s: &[u8], at: usize, alone: bool) -> IdentRead
 
 // Alone: the item has state and id, and nothing else.
 pub fn read_ident(s: &[u8], at: usize, kind: Kind, present: bool, alone: bool) -> IdentRead
-    ensures { result ≡ readIdent s.now at kind present alone }
+    ensures { result ≡ read_ident s.now at kind present alone }
 {
     if !present {
         return IdentRead::Got(Ident::Bare(kind), at);
@@ -188,7 +188,7 @@ pub fn read_ident(s: &[u8], at: usize, kind: Kind, present: bool, alone: bool) -
 }
 
 pub fn read_load(s: &[u8], at: usize, most: usize, present: bool) -> LoadRead
-    ensures { result ≡ readLoad s.now at most present }
+    ensures { result ≡ read_load s.now at most present }
 {
     if !present {
         return LoadRead::Got(at, 0, at);
@@ -207,7 +207,7 @@ pub fn read_load(s: &[u8], at: usize, most: usize, present: bool) -> LoadRead
 }
 
 fn why_flags(r: FlagsRead) -> ItemRead
-    ensures { result ≡ whyFlags r }
+    ensures { result ≡ why_flags r }
 {
     match r {
         FlagsRead::Got(_, _, _) => ItemRead::Refused(Refusal::Missing),
@@ -216,7 +216,7 @@ fn why_flags(r: FlagsRead) -> ItemRead
 }
 
 fn why_state(r: StateRead) -> ItemRead
-    ensures { result ≡ whyState r }
+    ensures { result ≡ why_state r }
 {
     match r {
         StateRead::Got(_, _) => ItemRead::Refused(Refusal::Missing),
@@ -225,7 +225,7 @@ fn why_state(r: StateRead) -> ItemRead
 }
 
 fn why_ident(r: IdentRead) -> ItemRead
-    ensures { result ≡ whyIdent r }
+    ensures { result ≡ why_ident r }
 {
     match r {
         IdentRead::Got(_, _) => ItemRead::Refused(Refusal::Missing),
@@ -234,7 +234,7 @@ fn why_ident(r: IdentRead) -> ItemRead
 }
 
 fn why_load(r: LoadRead) -> ItemRead
-    ensures { result ≡ whyLoad r }
+    ensures { result ≡ why_load r }
 {
     match r {
         LoadRead::Got(_, _, _) => ItemRead::Refused(Refusal::Missing),
@@ -243,7 +243,7 @@ fn why_load(r: LoadRead) -> ItemRead
 }
 
 pub fn read_item(s: &[u8], at: usize) -> ItemRead
-    ensures { result ≡ readItem s.now at }
+    ensures { result ≡ read_item s.now at }
 {
     let Read16::Got(ticks, a) = crate::number::get16(s, at) else {
         return ItemRead::Refused(Refusal::Missing);

@@ -1,8 +1,8 @@
 // The header: version (1), sequence number (1), seconds (6), nanoseconds (4), DataLength (2).
 ghost use Rattle.std.specs.Prelude.{◌≡◌, ◌∷◌, [], ◌+◌, ◌≤◌, length};
 ghost use Rattle.codec.specs.Number.{Wrote, Laid};
-ghost use Rattle.codec.specs.Time.{timeOk};
-ghost use Rattle.codec.specs.Header.{headerBytes, readHeader};
+ghost use Rattle.codec.specs.Time.{time_ok};
+ghost use Rattle.codec.specs.Header.{header_bytes, read_header};
 
 use crate::number::Put;
 use crate::refusal::Refusal;
@@ -31,7 +31,7 @@ fn lay_front(out: &mut [u8], at: usize, sequence: u8) -> usize
 }
 
 pub fn write_header(out: &mut [u8], at: usize, h: Header) -> Put
-    ensures { Wrote (timeOk h.time) out.old at (headerBytes h) out.new result }
+    ensures { Wrote (time_ok h.time) out.old at (header_bytes h) out.new result }
 {
     if !crate::time::in_range(h.time) {
         return Put::Nothing;
@@ -54,7 +54,7 @@ pub fn write_header(out: &mut [u8], at: usize, h: Header) -> Put
 
 // 20 under 14 bytes, 21 version, 28 nanoseconds, 22 DataLength isn't the rest.
 pub fn read_header(s: &[u8]) -> HeaderRead
-    ensures { result ≡ readHeader s.now }
+    ensures { result ≡ read_header s.now }
 {
     if s.len() < 14 {
         return HeaderRead::Refused(Refusal::Short);

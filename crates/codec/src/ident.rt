@@ -1,6 +1,6 @@
 // The frame ids of the three buses, and the network types.
 ghost use Rattle.std.specs.Prelude.{◌≡◌};
-ghost use Rattle.codec.specs.Ident.{networkType, kindIn, kind_of, canZero, canRange, canFd, pidOk, channelsOk, flexrayRange, identOk, canMost, most_of};
+ghost use Rattle.codec.specs.Ident.{network_type, kind_in, kind_of, can_zero, can_range, can_fd, pid_ok, channels_ok, flexray_range, ident_ok, can_most, most_of};
 ghost use Rattle.codec.specs.Number.{Below};
 
 #[derive(Drop)]
@@ -28,7 +28,7 @@ pub enum KindRead {
 }
 
 pub fn network_type(k: Kind) -> u8
-    ensures { Below (networkType k) 4 result }
+    ensures { Below (network_type k) 4 result }
 {
     match k {
         Kind::Can => 1,
@@ -38,7 +38,7 @@ pub fn network_type(k: Kind) -> u8
 }
 
 pub fn kind_in(n: u8) -> KindRead
-    ensures { result ≡ kindIn n }
+    ensures { result ≡ kind_in n }
 {
     if n == 1 {
         return KindRead::Got(Kind::Can);
@@ -70,27 +70,27 @@ pub fn kind_of(id: Ident) -> Kind
 
 // Bit 29 of a CAN key is zero.
 pub fn can_zero(key: u32) -> bool
-    ensures { result ≡ canZero key }
+    ensures { result ≡ can_zero key }
 {
     key >> 29 & 1 == 0
 }
 
 // An extended id, or a standard one of at most 11 bits.
 pub fn can_range(key: u32) -> bool
-    ensures { result ≡ canRange key }
+    ensures { result ≡ can_range key }
 {
     (key >> 31 == 1) | (key & 0x1fff_ffff <= 2047)
 }
 
 pub fn can_fd(key: u32) -> bool
-    ensures { result ≡ canFd key }
+    ensures { result ≡ can_fd key }
 {
     key >> 30 & 1 == 1
 }
 
 // Above the id's six bits stand P0, then P1. The other bits of a tap are masked away after the exclusive or.
 pub fn pid_ok(pid: u32) -> bool
-    ensures { result ≡ pidOk pid }
+    ensures { result ≡ pid_ok pid }
 {
     let p0 = (pid ^ pid >> 1 ^ pid >> 2 ^ pid >> 4) & 1;
     let p1 = (pid >> 1 ^ pid >> 3 ^ pid >> 4 ^ pid >> 5 ^ 1) & 1;
@@ -99,19 +99,19 @@ pub fn pid_ok(pid: u32) -> bool
 
 // Channel A, B or both.
 pub fn channels_ok(channels: u32) -> bool
-    ensures { result ≡ channelsOk channels }
+    ensures { result ≡ channels_ok channels }
 {
     (1 <= channels) & (channels <= 3)
 }
 
 pub fn flexray_range(channels: u8, slot: u16, cycle: u8) -> bool
-    ensures { result ≡ flexrayRange channels slot cycle }
+    ensures { result ≡ flexray_range channels slot cycle }
 {
     (1 <= channels) & (channels <= 3) & (1 <= slot) & (slot <= 2047) & (cycle <= 63)
 }
 
 pub fn ident_ok(id: Ident) -> bool
-    ensures { result ≡ identOk id }
+    ensures { result ≡ ident_ok id }
 {
     match id {
         Ident::Can(key) => can_zero(key) & can_range(key),
@@ -127,7 +127,7 @@ pub fn ident_ok(id: Ident) -> bool
 }
 
 fn can_most(fd: bool) -> usize
-    ensures { Below (canMost fd) 65 result }
+    ensures { Below (can_most fd) 65 result }
 {
     if fd { 64 } else { 8 }
 }

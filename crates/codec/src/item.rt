@@ -2,8 +2,8 @@
 // payload length (1) and payload. The payload stands beside the item's fields.
 ghost use Rattle.std.specs.Prelude.{◌≡◌, ◌++◌, ◌∷◌, [], ◌+◌, ◌*◌, ◌/◌, ◌≤◌, ◌<◌, length, true};
 ghost use Rattle.codec.specs.Number.{be, Wrote, Laid, Sized, Below};
-ghost use Rattle.codec.specs.Ident.{identBytes, identBit, identOk};
-ghost use Rattle.codec.specs.Item.{stateBytes, stateBit, linZero, shownOk, stateOk, setOk, setFor, setOf, loadOk, loadBytes, loadLength, flags_of, encode, itemOk, itemLength};
+ghost use Rattle.codec.specs.Ident.{ident_bytes, ident_bit, ident_ok};
+ghost use Rattle.codec.specs.Item.{state_bytes, state_bit, lin_zero, shown_ok, state_ok, set_ok, set_for, set_of, load_ok, load_bytes, load_length, flags_of, encode, item_ok, item_length};
 
 use crate::ident::{Ident, Kind};
 use crate::number::Put;
@@ -26,7 +26,7 @@ pub struct Item {
 }
 
 fn state_bit(state: State) -> u8
-    ensures { Below (stateBit state) 2 result }
+    ensures { Below (state_bit state) 2 result }
 {
     match state {
         State::Byte(_) => 1,
@@ -35,7 +35,7 @@ fn state_bit(state: State) -> u8
 }
 
 fn ident_bit(ident: Ident) -> u8
-    ensures { Below (identBit ident) 2 result }
+    ensures { Below (ident_bit ident) 2 result }
 {
     match ident {
         Ident::Can(_) => 1,
@@ -52,20 +52,20 @@ fn ident_bit(ident: Ident) -> u8
 
 // Which of state, id and payload are present, as bits 2, 1 and 0.
 fn set_of(state: State, ident: Ident, carries: bool) -> u8
-    ensures { Below (setOf state ident carries) 8 result }
+    ensures { Below (set_of state ident carries) 8 result }
 {
     state_bit(state) << 2 | ident_bit(ident) << 1 | carries as u8
 }
 
 pub fn set_ok(set: u8) -> bool
-    ensures { result ≡ setOk set }
+    ensures { result ≡ set_ok set }
 {
     (set == 3) | (set == 7) | (set == 6) | (set == 4)
 }
 
 // An error without a frame is told by state and id alone.
 fn set_for(ident: Ident, set: u8) -> bool
-    ensures { result ≡ setFor ident set }
+    ensures { result ≡ set_for ident set }
 {
     let known = set_ok(set);
     match ident {
@@ -83,13 +83,13 @@ fn set_for(ident: Ident, set: u8) -> bool
 
 // Bits 5 and 4 of a LIN state byte are zero.
 pub fn lin_zero(state: u8) -> bool
-    ensures { result ≡ linZero state }
+    ensures { result ≡ lin_zero state }
 {
     state >> 4 & 3 == 0
 }
 
 fn shown_ok(kind: Kind, b: u8) -> bool
-    ensures { result ≡ shownOk kind b }
+    ensures { result ≡ shown_ok kind b }
 {
     match kind {
         Kind::Can => true,
@@ -99,7 +99,7 @@ fn shown_ok(kind: Kind, b: u8) -> bool
 }
 
 pub fn state_ok(kind: Kind, state: State) -> bool
-    ensures { result ≡ stateOk kind state }
+    ensures { result ≡ state_ok kind state }
 {
     match state {
         State::Byte(b) => shown_ok(kind, b),
@@ -108,14 +108,14 @@ pub fn state_ok(kind: Kind, state: State) -> bool
 }
 
 fn load_ok(carries: bool, most: usize, n: usize) -> bool
-    ensures { result ≡ loadOk carries most n }
+    ensures { result ≡ load_ok carries most n }
 {
     if carries { n <= most } else { n == 0 }
 }
 
 // A flag set that goes with the id, reserved bits right, the id in range and the payload no longer than allowed.
 pub fn item_ok(item: Item, n: usize) -> bool
-    ensures { result ≡ itemOk item n }
+    ensures { result ≡ item_ok item n }
 {
     let state = item.state;
     let ident = item.ident;
@@ -128,7 +128,7 @@ pub fn item_ok(item: Item, n: usize) -> bool
 }
 
 fn state_len(state: State) -> usize
-    ensures { Sized (stateBytes state) 1 result }
+    ensures { Sized (state_bytes state) 1 result }
 {
     match state {
         State::Byte(_) => 1,
@@ -137,7 +137,7 @@ fn state_len(state: State) -> usize
 }
 
 fn ident_len(ident: Ident) -> usize
-    ensures { Sized (identBytes ident) 4 result }
+    ensures { Sized (ident_bytes ident) 4 result }
 {
     match ident {
         Ident::Can(_) => 4,
@@ -153,14 +153,14 @@ fn ident_len(ident: Ident) -> usize
 }
 
 fn load_len(carries: bool, n: u8) -> usize
-    ensures { Below (loadLength carries n) 257 result }
+    ensures { Below (load_length carries n) 257 result }
 {
     if carries { 1 + n as usize } else { 0 }
 }
 
 // How many bytes the item is with a payload of n bytes.
 pub fn item_len(item: Item, n: u8) -> usize
-    ensures { Below (itemLength item n) 266 result }
+    ensures { Below (item_length item n) 266 result }
 {
     let state = item.state;
     let ident = item.ident;
@@ -191,8 +191,8 @@ fn lay_front(out: &mut [u8], at: usize, offset: u16, flags: u8, network: u8) -> 
 }
 
 fn lay_state(out: &mut [u8], at: usize, state: State) -> usize
-    requires { at + length (stateBytes state) ≤ length out.old }
-    ensures { Laid out.old at (stateBytes state) out.new result }
+    requires { at + length (state_bytes state) ≤ length out.old }
+    ensures { Laid out.old at (state_bytes state) out.new result }
 {
     match state {
         State::Byte(b) => {
@@ -219,9 +219,9 @@ fn error_front(channels: u8) -> u8
 }
 
 fn lay_ident(out: &mut [u8], at: usize, ident: Ident) -> usize
-    requires ident_in_bounds { at + length (identBytes ident) ≤ length out.old }
-    requires ident_value { identOk ident ≡ true }
-    ensures { Laid out.old at (identBytes ident) out.new result }
+    requires ident_in_bounds { at + length (ident_bytes ident) ≤ length out.old }
+    requires ident_value { ident_ok ident ≡ true }
+    ensures { Laid out.old at (ident_bytes ident) out.new result }
 {
     match ident {
         Ident::Can(key) => {
@@ -254,8 +254,8 @@ fn lay_ident(out: &mut [u8], at: usize, ident: Ident) -> usize
 
 fn lay_load(out: &mut [u8], at: usize, carries: bool, payload: &[u8]) -> usize
     requires payload_len_bound { length payload.now < 256 }
-    requires payload_in_bounds { at + length (loadBytes carries payload.now) ≤ length out.old }
-    ensures { Laid out.old at (loadBytes carries payload.now) out.new result }
+    requires payload_in_bounds { at + length (load_bytes carries payload.now) ≤ length out.old }
+    ensures { Laid out.old at (load_bytes carries payload.now) out.new result }
 {
     if !carries {
         return at;
@@ -267,7 +267,7 @@ fn lay_load(out: &mut [u8], at: usize, carries: bool, payload: &[u8]) -> usize
 }
 
 pub fn write_item(out: &mut [u8], at: usize, item: Item, payload: &[u8]) -> Put
-    ensures { Wrote (itemOk item (length payload.now)) out.old at (encode item payload.now) out.new result }
+    ensures { Wrote (item_ok item (length payload.now)) out.old at (encode item payload.now) out.new result }
 {
     let n = payload.len();
     if !item_ok(item, n) {

@@ -1,6 +1,6 @@
 // Big-endian numbers of any width, written over a slice at an index and read from one.
 ghost use Rattle.std.specs.Prelude.{◌≡◌, true, ◌+◌, ◌≤◌, ◌%◌, length};
-ghost use Rattle.codec.specs.Number.{Wrote, Small, Word, be, word_at, word, get8Of, get16Of, get32Of, part_of};
+ghost use Rattle.codec.specs.Number.{Wrote, Small, Word, be, word_at, word, get8_of, get16_of, get32_of, part_of};
 
 // Where a write ended, or nothing was written.
 #[derive(Drop)]
@@ -115,7 +115,7 @@ pub fn word_at(s: &[u8], at: usize, n: usize) -> u64
 }
 
 pub fn get8(s: &[u8], at: usize) -> Read8
-    ensures { result ≡ get8Of s.now at }
+    ensures { result ≡ get8_of s.now at }
 {
     if s.len() < 1 {
         return Read8::Short;
@@ -127,7 +127,7 @@ pub fn get8(s: &[u8], at: usize) -> Read8
 }
 
 pub fn get16(s: &[u8], at: usize) -> Read16
-    ensures { result ≡ get16Of s.now at }
+    ensures { result ≡ get16_of s.now at }
 {
     if s.len() < 2 {
         return Read16::Short;
@@ -139,7 +139,7 @@ pub fn get16(s: &[u8], at: usize) -> Read16
 }
 
 pub fn get32(s: &[u8], at: usize) -> Read32
-    ensures { result ≡ get32Of s.now at }
+    ensures { result ≡ get32_of s.now at }
 {
     if s.len() < 4 {
         return Read32::Short;

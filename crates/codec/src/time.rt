@@ -1,7 +1,7 @@
 // Times, and the three kinds of number that count them. A tick is ten microseconds.
 ghost use Rattle.std.specs.Prelude.{◌≡◌, ◌*◌, min};
 ghost use Rattle.codec.specs.Number.{Below};
-ghost use Rattle.codec.specs.Time.{ns, timeOk, ticksOf, millisOf, span_of, elapsed, overdueOf, recoveredOf};
+ghost use Rattle.codec.specs.Time.{ns, time_ok, ticks_of, millis_of, span_of, elapsed, overdue_of, recovered_of};
 
 #[derive(Drop)]
 pub struct Ticks(pub u16);
@@ -35,13 +35,13 @@ enum Span {
 }
 
 pub fn in_range(t: Time) -> bool
-    ensures { result ≡ timeOk t }
+    ensures { result ≡ time_ok t }
 {
     (t.sec <= 281474976710655) & (t.nano <= 999999999)
 }
 
 pub fn ticks_of_nanos(n: Nanos) -> Elapsed
-    ensures { result ≡ ticksOf n.0 }
+    ensures { result ≡ ticks_of n.0 }
 {
     let t = n.0 / 10000;
     if t <= 65535 {
@@ -59,7 +59,7 @@ pub fn nanos_of_ticks(t: Ticks) -> Nanos
 
 // Whole milliseconds, cut at the largest deadline that can be named.
 pub fn millis_of_nanos(n: Nanos) -> Millis
-    ensures { Below (millisOf n.0) 65536 result.0 }
+    ensures { Below (millis_of n.0) 65536 result.0 }
 {
     let m = n.0 / 1000000;
     if m <= 65535 {
@@ -142,7 +142,7 @@ pub fn measure(from: Time, to: Time) -> Elapsed
 
 // The deadline, where there is one, has passed since the header time.
 pub fn overdue(from: Time, to: Time, deadline: Millis) -> bool
-    ensures { result ≡ overdueOf (ns from) (ns to) deadline.0 }
+    ensures { result ≡ overdue_of (ns from) (ns to) deadline.0 }
 {
     let most = deadline.0;
     match apart(from, to) {
@@ -157,7 +157,7 @@ pub fn overdue(from: Time, to: Time, deadline: Millis) -> bool
 
 // The time that an offset stands for. It may run into the second after the last one that a header can hold.
 pub fn recovered(header: Time, offset: Ticks) -> Time
-    ensures { result ≡ recoveredOf header offset.0 }
+    ensures { result ≡ recovered_of header offset.0 }
 {
     let past = nanos_of_ticks(offset);
     let n = header.nano as u64 + past.0;

@@ -4,16 +4,16 @@ use mathlib.Core.Bool.{false≢true}
 use Rattle.codec.specs.Choice.{pick}
 use Rattle.codec.proofs.BoolLaws.{and_l, and_r}
 use borrow.Author.Tests.{lt-leb}
-use Rattle.codec.specs.Time.{ns, elapsed, ticksOf, behindBy, overdueOf}
-use Rattle.codec.specs.Item.{itemLength}
+use Rattle.codec.specs.Time.{ns, elapsed, ticks_of, behind_by, overdue_of}
+use Rattle.codec.specs.Item.{item_length}
 use Rattle.codec.specs.declared.time.Time.{Time}
 use Rattle.framer.specs.declared.offer.Offer.{Offer}
 use Rattle.framer.specs.declared.meter.Meter.{Meter}
 use Rattle.codec.specs.Number.{over, fits, Wrote}
 use Rattle.framer.specs.declared.queue.Queue.{Queue}
 use Rattle.framer.specs.Queue.{queued, length_at}
-use Rattle.framer.specs.Meter.{closesFor, isWithin, back_in, item_of, soundMeter, Sound, start_of, closedMeter, slot_of, counted, placedMeter, takenMeter, failedMeter, offsetFor}
-use Rattle.framer.specs.Framer.{closed, begun, laidOut, itemSize, filledMeter, filledBytes, placed, added, add, passed, notTaken, take_of, out_of}
+use Rattle.framer.specs.Meter.{closes_for, is_within, back_in, item_of, sound_meter, Sound, start_of, closed_meter, slot_of, counted, placed_meter, taken_meter, failed_meter, offset_for}
+use Rattle.framer.specs.Framer.{closed, begun, laid_out, item_size, filled_meter, filled_bytes, placed, added, add, passed, not_taken, take_of, out_of}
 use Rattle.framer.specs.declared.framer.Framer.{Framer}
 use Rattle.codec.specs.declared.item.Item.{Item}
 use Rattle.codec.specs.declared.number.Put.{Put}
@@ -21,18 +21,18 @@ use Rattle.codec.specs.Field.{bytes_at}
 use Rattle.codec.proofs.NumberLaws.{kept}
 
 -- rule 2, one cause after the other
-pub closes-never : (m : Meter) (t : Time) (o : Offer) (n : ℕ) → m.filled ≡ 0 → false ≡ closesFor m t o n
-unfolding closesFor
-closes-never m t o n e = rw (eq-eqb m.filled 0 e)
+pub closes_never : (m : Meter) (t : Time) (o : Offer) (n : ℕ) → m.filled ≡ 0 → false ≡ closes_for m t o n
+unfolding closes_for
+closes_never m t o n e = rw (eq-eqb m.filled 0 e)
 
-pub closes-far : (m : Meter) (t : Time) (o : Offer) (n : ℕ) → (m.filled ≡ 0 → ⊥) → isWithin (elapsed (ns m.time) (ns t)) ≡ false → true ≡ closesFor m t o n
-unfolding closesFor
-closes-far m t o n e w = rw (ne_eqb m.filled 0 e, w)
+pub closes_far : (m : Meter) (t : Time) (o : Offer) (n : ℕ) → (m.filled ≡ 0 → ⊥) → is_within (elapsed (ns m.time) (ns t)) ≡ false → true ≡ closes_for m t o n
+unfolding closes_for
+closes_far m t o n e w = rw (ne_eqb m.filled 0 e, w)
 
-pub closes-over : (m : Meter) (t : Time) (o : Offer) (n : ℕ) → (m.filled ≡ 0 → ⊥) → isWithin (elapsed (ns m.time) (ns t)) ≡ true → m.size < m.filled → true ≡ closesFor m t o n
-unfolding closesFor
-closes-over m t o n e w h =
-    rw (ne_eqb m.filled 0 e, w, lt-ltb m.size (m.filled + itemLength (item_of m.lost (record { 0 = 0 }) o) n) (omega arith))
+pub closes_over : (m : Meter) (t : Time) (o : Offer) (n : ℕ) → (m.filled ≡ 0 → ⊥) → is_within (elapsed (ns m.time) (ns t)) ≡ true → m.size < m.filled → true ≡ closes_for m t o n
+unfolding closes_for
+closes_over m t o n e w h =
+    rw (ne_eqb m.filled 0 e, w, lt-ltb m.size (m.filled + item_length (item_of m.lost (record { 0 = 0 }) o) n) (omega arith))
 
 shift : (a b k : ℕ) → b ≤ a → ltb (a - b) k ≡ ltb a (b + k)
 shift a b k h = go (ltb (a - b) k) refl
@@ -41,33 +41,33 @@ shift a b k h = go (ltb (a - b) k) refl
     go true e = e ∙ sym (lt-ltb a (b + k) (omega (arith, ltb-true (a - b) k e)))
     go false e = e ∙ sym (le-ltb a (b + k) (omega (arith, ltb-false (a - b) k e)))
 
-pub closes_by : (m : Meter) (t : Time) (o : Offer) (n k : ℕ) → (m.filled ≡ 0 → ⊥) → isWithin (elapsed (ns m.time) (ns t)) ≡ true → m.filled ≤ m.size
-    → k ≡ itemLength (item_of m.lost (record { 0 = 0 }) o) n → ltb (m.size - m.filled) k ≡ closesFor m t o n
-unfolding closesFor
+pub closes_by : (m : Meter) (t : Time) (o : Offer) (n k : ℕ) → (m.filled ≡ 0 → ⊥) → is_within (elapsed (ns m.time) (ns t)) ≡ true → m.filled ≤ m.size
+    → k ≡ item_length (item_of m.lost (record { 0 = 0 }) o) n → ltb (m.size - m.filled) k ≡ closes_for m t o n
+unfolding closes_for
 closes_by m t o n k e w h g = rw (ne_eqb m.filled 0 e, w, ← g) (shift m.size m.filled k h)
 
 -- what is told of the measure is how far the clock is behind, and 0 where it is not
-pub back_by : (f t : ℕ) → (back_in (elapsed f t)).0 ≡ behindBy f t
-unfolding elapsed ticksOf
+pub back_by : (f t : ℕ) → (back_in (elapsed f t)).0 ≡ behind_by f t
+unfolding elapsed ticks_of
 back_by f t = go (ltb t f) refl (leb ((t - f) / 10000) 65535) refl
   where
-    go : (b : Bool) → ltb t f ≡ b → (d : Bool) → leb ((t - f) / 10000) 65535 ≡ d → (back_in (elapsed f t)).0 ≡ behindBy f t
+    go : (b : Bool) → ltb t f ≡ b → (d : Bool) → leb ((t - f) / 10000) 65535 ≡ d → (back_in (elapsed f t)).0 ≡ behind_by f t
     go true e d g = rw e
     go false e true g = let h : f ≤ t = ltb-false t f e in rw (e, g) (omega arith)
     go false e false g = let h : f ≤ t = ltb-false t f e in rw (e, g) (omega arith)
 
 -- the ring of eight slots
-pub next-slot : (n : ℕ) → (n % 8 + 1) % 8 ≡ (n + 1) % 8
-next-slot n = omega arith
+pub next_slot : (n : ℕ) → (n % 8 + 1) % 8 ≡ (n + 1) % 8
+next_slot n = omega arith
 
 -- a frame is put where it fits a slot
-pub put-long : (q : Queue) (slot : ℕ) (frame : List ℕ) → 1024 < length frame → q ≡ queued q slot frame
+pub put_long : (q : Queue) (slot : ℕ) (frame : List ℕ) → 1024 < length frame → q ≡ queued q slot frame
 unfolding queued
-put-long q slot frame h = rw (lt-leb (length frame) 1024 h)
+put_long q slot frame h = rw (lt-leb (length frame) 1024 h)
 
-pub put-past : (q : Queue) (slot : ℕ) (frame : List ℕ) → length frame ≤ 1024 → 7 < slot → q ≡ queued q slot frame
+pub put_past : (q : Queue) (slot : ℕ) (frame : List ℕ) → length frame ≤ 1024 → 7 < slot → q ≡ queued q slot frame
 unfolding queued
-put-past q slot frame h g = rw (le-leb (length frame) 1024 h, lt-leb slot 7 g)
+put_past q slot frame h g = rw (le-leb (length frame) 1024 h, lt-leb slot 7 g)
 
 pub put_in : (q : Queue) (slot : ℕ) (frame bytes : List ℕ) → length frame ≤ 1024 → slot ≤ 7 → bytes ≡ over q.bytes (slot * 1024) frame
     → record { bytes = bytes; lengths = set q.lengths slot (length frame) } ≡ queued q slot frame
@@ -75,12 +75,12 @@ unfolding queued
 put_in q slot frame bytes h g e = rw (le-leb (length frame) 1024 h, le-leb slot 7 g, e)
 
 -- what a sound meter is
-pub sounds : (m : Meter) → soundMeter m ≡ true → Sound m
-unfolding soundMeter
+pub sounds : (m : Meter) → sound_meter m ≡ true → Sound m
+unfolding sound_meter
 sounds m e = record {
-  size-least = search (and_l, and_r, leb-true) depth 14;
-  size-most = search (and_l, and_r, leb-true) depth 14;
-  room-least = search (and_l, and_r, leb-true) depth 14;
+  size_least = search (and_l, and_r, leb-true) depth 14;
+  size_most = search (and_l, and_r, leb-true) depth 14;
+  room_least = search (and_l, and_r, leb-true) depth 14;
   room_most = search (and_l, and_r, leb-true) depth 14;
   deadline = search (and_l, and_r, leb-true) depth 14;
   filled = search (and_l, and_r, leb-true) depth 14;
@@ -90,12 +90,12 @@ sounds m e = record {
   waiting = search (and_l, and_r, leb-true) depth 14;
 }
 
-pub sound-flag : {m : Meter} → Sound m → soundMeter m ≡ true
-unfolding soundMeter
-sound-flag {m} s = rw (
-  le-leb 32 m.size s.size-least,
-  le-leb m.size 1024 s.size-most,
-  le-leb 1 m.room s.room-least,
+pub sound_flag : {m : Meter} → Sound m → sound_meter m ≡ true
+unfolding sound_meter
+sound_flag {m} s = rw (
+  le-leb 32 m.size s.size_least,
+  le-leb m.size 1024 s.size_most,
+  le-leb 1 m.room s.room_least,
   le-leb m.room 8 s.room_most,
   le-leb m.deadline.0 655 s.deadline,
   le-leb m.filled m.size s.filled,
@@ -105,8 +105,8 @@ sound-flag {m} s = rw (
   le-leb m.waiting m.room s.waiting,
 )
 
-pub small : (m : Meter) → soundMeter m ≡ true → m.filled ≤ 1024
-small m e = let s = sounds m e in omega (arith, s.filled, s.size-most)
+pub small : (m : Meter) → sound_meter m ≡ true → m.filled ≤ 1024
+small m e = let s = sounds m e in omega (arith, s.filled, s.size_most)
 
 -- an item starts behind a header
 start : (n : ℕ) → (eqb n 0 || leb 14 n) ≡ true → 14 ≤ pick (eqb n 0) 14 n
@@ -116,97 +116,97 @@ start n e = go (eqb n 0) refl
     go true g = rw g (omega arith)
     go false g = rw g (leb-true 14 n (rw g at e))
 
-pub start-least : (m : Meter) → soundMeter m ≡ true → 14 ≤ start_of m
+pub start_least : (m : Meter) → sound_meter m ≡ true → 14 ≤ start_of m
 unfolding start_of
-start-least m e = start m.filled (sounds m e).header
+start_least m e = start m.filled (sounds m e).header
 
 -- closing
-pub closed-size : (m : Meter) → ((closedMeter m).size ≡ m.size) × ((closedMeter m).filled ≡ 0)
-unfolding closedMeter
-closed-size m = go (ltb m.waiting m.room) refl
+pub closed_size : (m : Meter) → ((closed_meter m).size ≡ m.size) × ((closed_meter m).filled ≡ 0)
+unfolding closed_meter
+closed_size m = go (ltb m.waiting m.room) refl
   where
-    go : (b : Bool) → ltb m.waiting m.room ≡ b → ((closedMeter m).size ≡ m.size) × ((closedMeter m).filled ≡ 0)
+    go : (b : Bool) → ltb m.waiting m.room ≡ b → ((closed_meter m).size ≡ m.size) × ((closed_meter m).filled ≡ 0)
     go true e = (rw e, rw e)
     go false e = (rw e, rw e)
 
-pub close-kept : (w : Framer) (m : Meter) (q : Queue) (k : ℕ) (frame : List ℕ) → m ≡ closedMeter w.meter → w.meter.waiting < w.meter.room
+pub close_kept : (w : Framer) (m : Meter) (q : Queue) (k : ℕ) (frame : List ℕ) → m ≡ closed_meter w.meter → w.meter.waiting < w.meter.room
     → k ≡ slot_of w.meter → frame ≡ take w.meter.filled w.bytes → q ≡ queued w.queue k frame
     → record { meter = m; bytes = replicate 1024 0; queue = q } ≡ closed w
 unfolding closed
-close-kept w m q k frame em h ek ef eq = rw (lt-ltb w.meter.waiting w.meter.room h, ← em, ← ek, ← ef, ← eq)
+close_kept w m q k frame em h ek ef eq = rw (lt-ltb w.meter.waiting w.meter.room h, ← em, ← ek, ← ef, ← eq)
 
-pub close-lost : (w : Framer) (m : Meter) → m ≡ closedMeter w.meter → w.meter.room ≤ w.meter.waiting
+pub close_lost : (w : Framer) (m : Meter) → m ≡ closed_meter w.meter → w.meter.room ≤ w.meter.waiting
     → record { meter = m; bytes = replicate 1024 0; queue = w.queue } ≡ closed w
 unfolding closed
-close-lost w m em h = rw (le-ltb w.meter.waiting w.meter.room h, ← em)
+close_lost w m em h = rw (le-ltb w.meter.waiting w.meter.room h, ← em)
 
 -- adding: the frame with the item
-pub fill-by : (l : List ℕ) (m : Meter) (t : Time) (o : Offer) (payload : List ℕ) (item : Item) (n : ℕ) (after : Meter) (at : ℕ) (begin end : List ℕ)
-    → item ≡ item_of m.lost (offsetFor m t) o → n ≡ itemLength item (length payload) → after ≡ placedMeter m t n
-    → at ≡ start_of m → begin ≡ begun l m t → end ≡ laidOut begin at item payload (after.filled - 14)
-    → (after ≡ filledMeter m t o (length payload)) × (end ≡ filledBytes l m t o payload)
-unfolding filledBytes filledMeter itemSize
-fill-by l m t o payload item n after at begin end ei en ea es eb ee = (rw (← ei, ← en, ← ea), rw (← ei, ← en, ← ea, ← es, ← eb, ← ee))
+pub fill_by : (l : List ℕ) (m : Meter) (t : Time) (o : Offer) (payload : List ℕ) (item : Item) (n : ℕ) (after : Meter) (at : ℕ) (begin end : List ℕ)
+    → item ≡ item_of m.lost (offset_for m t) o → n ≡ item_length item (length payload) → after ≡ placed_meter m t n
+    → at ≡ start_of m → begin ≡ begun l m t → end ≡ laid_out begin at item payload (after.filled - 14)
+    → (after ≡ filled_meter m t o (length payload)) × (end ≡ filled_bytes l m t o payload)
+unfolding filled_bytes filled_meter item_size
+fill_by l m t o payload item n after at begin end ei en ea es eb ee = (rw (← ei, ← en, ← ea), rw (← ei, ← en, ← ea, ← es, ← eb, ← ee))
 
-pub place-by : (w : Framer) (t : Time) (o : Offer) (payload bytes : List ℕ) (m : Meter)
-    → (m ≡ filledMeter w.meter t o (length payload)) × (bytes ≡ filledBytes w.bytes w.meter t o payload)
+pub place_by : (w : Framer) (t : Time) (o : Offer) (payload bytes : List ℕ) (m : Meter)
+    → (m ≡ filled_meter w.meter t o (length payload)) × (bytes ≡ filled_bytes w.bytes w.meter t o payload)
     → record { meter = m; bytes = bytes; queue = w.queue } ≡ placed w t o payload
 unfolding placed
-place-by w t o payload bytes m e = rw (e.0, e.1)
+place_by w t o payload bytes m e = rw (e.0, e.1)
 
-pub add-unsound : (w : Framer) (t : Time) (o : Offer) (payload : List ℕ) → soundMeter w.meter ≡ false → w ≡ add w t o payload
+pub add_unsound : (w : Framer) (t : Time) (o : Offer) (payload : List ℕ) → sound_meter w.meter ≡ false → w ≡ add w t o payload
 unfolding add
-add-unsound w t o payload e = rw e
+add_unsound w t o payload e = rw e
 
-pub add-long : (w : Framer) (t : Time) (o : Offer) (payload : List ℕ) → soundMeter w.meter ≡ true → 254 < length payload → w ≡ add w t o payload
+pub add_long : (w : Framer) (t : Time) (o : Offer) (payload : List ℕ) → sound_meter w.meter ≡ true → 254 < length payload → w ≡ add w t o payload
 unfolding add
-add-long w t o payload e h = rw (e, lt-leb (length payload) 254 h)
+add_long w t o payload e h = rw (e, lt-leb (length payload) 254 h)
 
-pub add_is : (w : Framer) (t : Time) (o : Offer) (payload : List ℕ) → soundMeter w.meter ≡ true → length payload ≤ 254 → added w t o payload ≡ add w t o payload
+pub add_is : (w : Framer) (t : Time) (o : Offer) (payload : List ℕ) → sound_meter w.meter ≡ true → length payload ≤ 254 → added w t o payload ≡ add w t o payload
 unfolding add
 add_is w t o payload e h = rw (e, le-leb (length payload) 254 h)
 
-pub add-closing : (w x r : Framer) (t : Time) (o : Offer) (payload : List ℕ) → soundMeter w.meter ≡ true → length payload ≤ 254
-    → closesFor w.meter t o (length payload) ≡ true → x ≡ closed w → r ≡ placed x t o payload → r ≡ add w t o payload
+pub add_closing : (w x r : Framer) (t : Time) (o : Offer) (payload : List ℕ) → sound_meter w.meter ≡ true → length payload ≤ 254
+    → closes_for w.meter t o (length payload) ≡ true → x ≡ closed w → r ≡ placed x t o payload → r ≡ add w t o payload
 unfolding added
-add-closing w x r t o payload e h g ex er = rw (← add_is w t o payload e h, g, ← ex, ← er)
+add_closing w x r t o payload e h g ex er = rw (← add_is w t o payload e h, g, ← ex, ← er)
 
-pub add-staying : (w r : Framer) (t : Time) (o : Offer) (payload : List ℕ) → soundMeter w.meter ≡ true → length payload ≤ 254
-    → closesFor w.meter t o (length payload) ≡ false → r ≡ placed w t o payload → r ≡ add w t o payload
+pub add_staying : (w r : Framer) (t : Time) (o : Offer) (payload : List ℕ) → sound_meter w.meter ≡ true → length payload ≤ 254
+    → closes_for w.meter t o (length payload) ≡ false → r ≡ placed w t o payload → r ≡ add w t o payload
 unfolding added
-add-staying w r t o payload e h g er = rw (← add_is w t o payload e h, g, ← er)
+add_staying w r t o payload e h g er = rw (← add_is w t o payload e h, g, ← er)
 
 pub closed-room : (w x : Framer) → x ≡ closed w → (x.meter.filled ≤ 1024) × (14 ≤ start_of x.meter)
 unfolding closed start_of
 closed-room w x e =
-    let f : x.meter.filled ≡ 0 = rw e (closed-size w.meter).1 in
+    let f : x.meter.filled ≡ 0 = rw e (closed_size w.meter).1 in
     (omega arith, rw f (omega arith))
 
 -- the deadline
-pub pass-unsound : (w : Framer) (t : Time) → soundMeter w.meter ≡ false → w ≡ passed w t
+pub pass_unsound : (w : Framer) (t : Time) → sound_meter w.meter ≡ false → w ≡ passed w t
 unfolding passed
-pass-unsound w t e = rw e
+pass_unsound w t e = rw e
 
-pub pass-empty : (w : Framer) (t : Time) → soundMeter w.meter ≡ true → w.meter.filled ≡ 0 → w ≡ passed w t
+pub pass_empty : (w : Framer) (t : Time) → sound_meter w.meter ≡ true → w.meter.filled ≡ 0 → w ≡ passed w t
 unfolding passed
-pass-empty w t e h = rw (e, eq-eqb w.meter.filled 0 h)
+pass_empty w t e h = rw (e, eq-eqb w.meter.filled 0 h)
 
-pub pass-by : (w r : Framer) (t : Time) (b : Bool) → soundMeter w.meter ≡ true → (w.meter.filled ≡ 0 → ⊥)
-    → overdueOf (ns w.meter.time) (ns t) w.meter.deadline.0 ≡ b → r ≡ pick b (closed w) w → r ≡ passed w t
+pub pass_by : (w r : Framer) (t : Time) (b : Bool) → sound_meter w.meter ≡ true → (w.meter.filled ≡ 0 → ⊥)
+    → overdue_of (ns w.meter.time) (ns t) w.meter.deadline.0 ≡ b → r ≡ pick b (closed w) w → r ≡ passed w t
 unfolding passed
-pass-by w r t b e h g er = rw (e, ne_eqb w.meter.filled 0 h, g, ← er)
+pass_by w r t b e h g er = rw (e, ne_eqb w.meter.filled 0 h, g, ← er)
 
 -- taking
-pub take-unsound : (w : Framer) (out : List ℕ) → soundMeter w.meter ≡ false → (notTaken w 19 ≡ take_of w (length out)) × (out ≡ out_of w out)
+pub take_unsound : (w : Framer) (out : List ℕ) → sound_meter w.meter ≡ false → (not_taken w 19 ≡ take_of w (length out)) × (out ≡ out_of w out)
 unfolding take_of out_of
-take-unsound w out e = (rw e, rw e)
+take_unsound w out e = (rw e, rw e)
 
-pub take_none : (w : Framer) (out : List ℕ) → soundMeter w.meter ≡ true → w.meter.waiting ≡ 0 → (notTaken w 13 ≡ take_of w (length out)) × (out ≡ out_of w out)
+pub take_none : (w : Framer) (out : List ℕ) → sound_meter w.meter ≡ true → w.meter.waiting ≡ 0 → (not_taken w 13 ≡ take_of w (length out)) × (out ≡ out_of w out)
 unfolding take_of out_of
 take_none w out e h = let z = eq-eqb w.meter.waiting 0 h in (rw (e, z), rw (e, z))
 
-pub take_short : (w : Framer) (out : List ℕ) (n : ℕ) → soundMeter w.meter ≡ true → (w.meter.waiting ≡ 0 → ⊥)
-    → n ≡ length_at w.queue w.meter.first → length out < n → (notTaken w 12 ≡ take_of w (length out)) × (out ≡ out_of w out)
+pub take_short : (w : Framer) (out : List ℕ) (n : ℕ) → sound_meter w.meter ≡ true → (w.meter.waiting ≡ 0 → ⊥)
+    → n ≡ length_at w.queue w.meter.first → length out < n → (not_taken w 12 ≡ take_of w (length out)) × (out ≡ out_of w out)
 unfolding take_of out_of
 take_short w out n e h en g =
     let z = ne_eqb w.meter.waiting 0 h in
@@ -222,8 +222,8 @@ part_length s at n = go (fits s at n) refl
     go true e = rw e (omega (arith, length-take n (drop at s)))
     go false e = rw e (omega arith)
 
-pub take_done : (w : Framer) (out : List ℕ) (n : ℕ) (m : Meter) (part after : List ℕ) {k : Put} → soundMeter w.meter ≡ true → (w.meter.waiting ≡ 0 → ⊥)
-    → n ≡ length_at w.queue w.meter.first → n ≤ length out → m ≡ takenMeter w.meter → part ≡ bytes_at w.queue.bytes (w.meter.first * 1024) n
+pub take_done : (w : Framer) (out : List ℕ) (n : ℕ) (m : Meter) (part after : List ℕ) {k : Put} → sound_meter w.meter ≡ true → (w.meter.waiting ≡ 0 → ⊥)
+    → n ≡ length_at w.queue w.meter.first → n ≤ length out → m ≡ taken_meter w.meter → part ≡ bytes_at w.queue.bytes (w.meter.first * 1024) n
     → Wrote true out 0 part after k
     → (record { framer = record { meter = m; bytes = w.bytes; queue = w.queue }; answer = 0; length = n } ≡ take_of w (length out)) × (after ≡ out_of w out)
 unfolding take_of out_of
@@ -235,29 +235,29 @@ take_done w out n m part after e h en g em ep ew =
     (rw (e, z, ← en, y, ← em), rw (e, z, ← en, y, ← ep) q)
 
 -- a frame with an item is past its header
-pub placed-least : (m : Meter) (t : Time) (n : ℕ) → 14 ≤ start_of m → 14 ≤ (placedMeter m t n).filled
-unfolding start_of placedMeter
-placed-least m t n h = go (eqb m.filled 0) refl
+pub placed_least : (m : Meter) (t : Time) (n : ℕ) → 14 ≤ start_of m → 14 ≤ (placed_meter m t n).filled
+unfolding start_of placed_meter
+placed_least m t n h = go (eqb m.filled 0) refl
   where
-    go : (b : Bool) → eqb m.filled 0 ≡ b → 14 ≤ (placedMeter m t n).filled
+    go : (b : Bool) → eqb m.filled 0 ≡ b → 14 ≤ (placed_meter m t n).filled
     go true e = rw e (omega arith)
     go false e = let g : 14 ≤ m.filled = rw e at h in rw e (omega arith)
 
 -- a choice where its test is known; the test is a field of what is chosen, so it cannot be rewritten by itself
-first-chosen : {A : Type 0} (b : Bool) (x y : A) → b ≡ true → x ≡ pick b x y
-first-chosen true x y e = refl
-first-chosen false x y e = absurd (false≢true e)
+first_chosen : {A : Type 0} (b : Bool) (x y : A) → b ≡ true → x ≡ pick b x y
+first_chosen true x y e = refl
+first_chosen false x y e = absurd (false≢true e)
 
-second-chosen : {A : Type 0} (b : Bool) (x y : A) → b ≡ false → y ≡ pick b x y
-second-chosen false x y e = refl
-second-chosen true x y e = absurd (true≢false e)
+second_chosen : {A : Type 0} (b : Bool) (x y : A) → b ≡ false → y ≡ pick b x y
+second_chosen false x y e = refl
+second_chosen true x y e = absurd (true≢false e)
 
 -- a failed send, where none is out and where a frame is
-pub fail-none : (m : Meter) → m.out ≡ false → m ≡ failedMeter m
-unfolding failedMeter
-fail-none m e = second-chosen m.out _ m e
+pub fail_none : (m : Meter) → m.out ≡ false → m ≡ failed_meter m
+unfolding failed_meter
+fail_none m e = second_chosen m.out _ m e
 
-pub fail-out : (m : Meter) (n : ℕ) → m.out ≡ true → n ≡ counted m.failures
+pub fail_out : (m : Meter) (n : ℕ) → m.out ≡ true → n ≡ counted m.failures
     → record {
       size = m.size;
       room = m.room;
@@ -271,6 +271,6 @@ pub fail-out : (m : Meter) (n : ℕ) → m.out ≡ true → n ≡ counted m.fail
       failures = n;
       first = m.first;
       waiting = m.waiting;
-    } ≡ failedMeter m
-unfolding failedMeter
-fail-out m n e q = rw q (first-chosen m.out _ m e)
+    } ≡ failed_meter m
+unfolding failed_meter
+fail_out m n e q = rw q (first_chosen m.out _ m e)

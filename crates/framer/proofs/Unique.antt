@@ -9,26 +9,26 @@ use Rattle.framer.proofs.framer.Framer.pass.Reads as pass
 use Rattle.framer.proofs.framer.Framer.take.Reads as take
 use Rattle.framer.proofs.framer.Framer.fail.Reads as fail
 
-pub sound-unique : (κs : _) (a : _) (r r' : _) (x x' : _) → sound.Post κs a r x → sound.Post κs a r' x' → r ≡ r'
-sound-unique κs a r r' x x' p q = p ∙ sym q
+pub sound_unique : (κs : _) (a : _) (r r' : _) (x x' : _) → sound.Post κs a r x → sound.Post κs a r' x' → r ≡ r'
+sound_unique κs a r r' x x' p q = p ∙ sym q
 
-pub limits-ok-unique : (κs : _) (a : _) (r r' : _) (x x' : _) → limits-ok.Post κs a r x → limits-ok.Post κs a r' x' → r ≡ r'
-limits-ok-unique κs a r r' x x' p q = p ∙ sym q
+pub limits_ok_unique : (κs : _) (a : _) (r r' : _) (x x' : _) → limits-ok.Post κs a r x → limits-ok.Post κs a r' x' → r ≡ r'
+limits_ok_unique κs a r r' x x' p q = p ∙ sym q
 
-pub back-for-unique : (κs : _) (a : _) (r r' : _) (x x' : _) → back-for.Post κs a r x → back-for.Post κs a r' x' → r ≡ r'
-back-for-unique κs a r r' x x' p q = p ∙ sym q
+pub back_for_unique : (κs : _) (a : _) (r r' : _) (x x' : _) → back-for.Post κs a r x → back-for.Post κs a r' x' → r ≡ r'
+back_for_unique κs a r r' x x' p q = p ∙ sym q
 
-pub empty-unique : (κs : _) (a : _) (r r' : _) (x x' : _) → empty.Post κs a r x → empty.Post κs a r' x' → r ≡ r'
-empty-unique κs a r r' x x' p q = p ∙ sym q
+pub empty_unique : (κs : _) (a : _) (r r' : _) (x x' : _) → empty.Post κs a r x → empty.Post κs a r' x' → r ≡ r'
+empty_unique κs a r r' x x' p q = p ∙ sym q
 
-pub add-unique : (κs : _) (a : _) (r r' : _) (x x' : _) → add.Post κs a r x → add.Post κs a r' x' → r ≡ r'
-add-unique κs a r r' x x' p q = p ∙ sym q
+pub add_unique : (κs : _) (a : _) (r r' : _) (x x' : _) → add.Post κs a r x → add.Post κs a r' x' → r ≡ r'
+add_unique κs a r r' x x' p q = p ∙ sym q
 
-pub pass-unique : (κs : _) (a : _) (r r' : _) (x x' : _) → pass.Post κs a r x → pass.Post κs a r' x' → r ≡ r'
-pass-unique κs a r r' x x' p q = p ∙ sym q
+pub pass_unique : (κs : _) (a : _) (r r' : _) (x x' : _) → pass.Post κs a r x → pass.Post κs a r' x' → r ≡ r'
+pass_unique κs a r r' x x' p q = p ∙ sym q
 
-pub take-unique : (κs : _) (a : _) (r r' : _) (x x' : _) → take.Post κs a r x → take.Post κs a r' x' → (r ≡ r') × (x.1.0.now ≡ x'.1.0.now)
-take-unique κs a r r' x x' p q = (p.0 ∙ sym q.0, p.1 ∙ sym q.1)
+pub take_unique : (κs : _) (a : _) (r r' : _) (x x' : _) → take.Post κs a r x → take.Post κs a r' x' → (r ≡ r') × (x.1.0.now ≡ x'.1.0.now)
+take_unique κs a r r' x x' p q = (p.0 ∙ sym q.0, p.1 ∙ sym q.1)
 
-pub fail-unique : (κs : _) (a : _) (r r' : _) (x x' : _) → fail.Post κs a r x → fail.Post κs a r' x' → r ≡ r'
-fail-unique κs a r r' x x' p q = p ∙ sym q
+pub fail_unique : (κs : _) (a : _) (r r' : _) (x x' : _) → fail.Post κs a r x → fail.Post κs a r' x' → r ≡ r'
+fail_unique κs a r r' x x' p q = p ∙ sym q

@@ -5,8 +5,8 @@ use Rattle.codec.specs.Number.{over}
 use Rattle.codec.specs.Field.{bytes_at}
 use Rattle.framer.specs.declared.queue.Queue.{Queue}
 
-unfoldable pub emptyQueue : Queue
-emptyQueue = record { bytes = replicate 8192 0; lengths = replicate 8 0 }
+unfoldable pub empty_queue : Queue
+empty_queue = record { bytes = replicate 8192 0; lengths = replicate 8 0 }
 
 -- the frame stands in its slot, and its length beside it; what no slot holds is not put
 unfoldable pub queued : Queue → ℕ → List ℕ → Queue

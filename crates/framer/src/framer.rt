@@ -1,7 +1,7 @@
 // The frame being filled, and the queue behind it: rules 1 to 3, the deadline of rule 6, rules 7 and 8. It knows no bus.
 ghost use Rattle.std.specs.Prelude.{◌≡◌, ◌≤◌, length};
-ghost use Rattle.framer.specs.Meter.{placedMeter, start_of};
-ghost use Rattle.framer.specs.Framer.{emptyFramer, closed, begun, laidOut, filledMeter, filledBytes, add, passed, take_of, out_of, failed};
+ghost use Rattle.framer.specs.Meter.{placed_meter, start_of};
+ghost use Rattle.framer.specs.Framer.{empty_framer, closed, begun, laid_out, filled_meter, filled_bytes, add, passed, take_of, out_of, failed};
 
 use crate::meter::Meter;
 use crate::offer::Offer;
@@ -26,7 +26,7 @@ pub struct Taken {
 }
 
 pub fn empty(size: usize, room: usize, deadline: Millis) -> Framer
-    ensures { result ≡ emptyFramer size room deadline }
+    ensures { result ≡ empty_framer size room deadline }
 {
     Framer {
         meter: crate::meter::empty_meter(size, room, deadline),
@@ -52,7 +52,7 @@ fn begin(bytes: &mut [u8; 1024], m: Meter, t: Time) -> usize
 }
 
 fn lay(bytes: &mut [u8; 1024], at: usize, item: Item, payload: &[u8], total: usize)
-    ensures { bytes.new ≡ laidOut bytes.old at item payload.now total }
+    ensures { bytes.new ≡ laid_out bytes.old at item payload.now total }
 {
     codec::item::write_item(bytes, at, item, payload);
     codec::number::put_be(bytes, 12, total as u64, 2);
@@ -61,7 +61,7 @@ fn lay(bytes: &mut [u8; 1024], at: usize, item: Item, payload: &[u8], total: usi
 fn placed_meter(m: Meter, t: Time, n: usize) -> Meter
     requires filled_bound { m.filled ≤ 1024 }
     requires n_bound { n ≤ 265 }
-    ensures { result ≡ placedMeter m t n }
+    ensures { result ≡ placed_meter m t n }
 {
     let mut r = m;
     r.lost = false;
@@ -80,7 +80,7 @@ fn fill(bytes: &mut [u8; 1024], m: Meter, t: Time, o: Offer, payload: &[u8]) -> 
     requires filled_bound { m.filled ≤ 1024 }
     requires bound { 14 ≤ start_of m }
     requires payload_len_bound { length payload.now ≤ 254 }
-    ensures { (result ≡ filledMeter m t o (length payload.now)) × (bytes.new ≡ filledBytes bytes.old m t o payload.now) }
+    ensures { (result ≡ filled_meter m t o (length payload.now)) × (bytes.new ≡ filled_bytes bytes.old m t o payload.now) }
 {
     let item = crate::meter::next_item(m, t, o);
     let n = codec::item::item_len(item, payload.len() as u8);

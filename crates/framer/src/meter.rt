@@ -1,7 +1,7 @@
 // The framer's numbers: its limits, the frame being filled, what was lost and what waits. Deciding needs nothing else.
 ghost use Rattle.std.specs.Prelude.{◌≡◌};
 ghost use Rattle.codec.specs.Number.{Below};
-ghost use Rattle.framer.specs.Meter.{soundMeter, limitsOk, emptyMeter, isWithin, ticksIn, back_in, stateShown, item_of, offsetFor, backFor, closesFor, slot_of, counted, closedMeter, takenMeter, failedMeter};
+ghost use Rattle.framer.specs.Meter.{sound_meter, limits_ok, empty_meter, is_within, ticks_in, back_in, state_shown, item_of, offset_for, back_for, closes_for, slot_of, counted, closed_meter, taken_meter, failed_meter};
 
 use crate::offer::Offer;
 use codec::item::{Item, State};
@@ -30,7 +30,7 @@ pub struct Meter {
 
 // The part of the soundness rule that is the framer's.
 pub fn sound(m: Meter) -> bool
-    ensures { result ≡ soundMeter m }
+    ensures { result ≡ sound_meter m }
 {
     let d = m.deadline;
     (32 <= m.size)
@@ -46,13 +46,13 @@ pub fn sound(m: Meter) -> bool
 }
 
 pub fn limits_ok(size: u64, room: u64, deadline: u64) -> bool
-    ensures { result ≡ limitsOk size room deadline }
+    ensures { result ≡ limits_ok size room deadline }
 {
     (32 <= size) & (size <= 1024) & (1 <= room) & (room <= 8) & (deadline <= 655)
 }
 
 pub(crate) fn empty_meter(size: usize, room: usize, deadline: Millis) -> Meter
-    ensures { result ≡ emptyMeter size room deadline }
+    ensures { result ≡ empty_meter size room deadline }
 {
     Meter {
         size,
@@ -71,7 +71,7 @@ pub(crate) fn empty_meter(size: usize, room: usize, deadline: Millis) -> Meter
 }
 
 fn is_within(e: Elapsed) -> bool
-    ensures { result ≡ isWithin e }
+    ensures { result ≡ is_within e }
 {
     match e {
         Elapsed::Ticks(_) => true,
@@ -81,7 +81,7 @@ fn is_within(e: Elapsed) -> bool
 }
 
 fn ticks_in(e: Elapsed) -> Ticks
-    ensures { result ≡ ticksIn e }
+    ensures { result ≡ ticks_in e }
 {
     match e {
         Elapsed::Ticks(t) => t,
@@ -102,7 +102,7 @@ fn back_in(e: Elapsed) -> Nanos
 
 // The state byte is shown where it is due or something was lost, which sets its bit 7.
 fn state_shown(lost: bool, o: Offer) -> State
-    ensures { result ≡ stateShown lost o }
+    ensures { result ≡ state_shown lost o }
 {
     if lost {
         return State::Byte(o.state | 128);
@@ -128,7 +128,7 @@ fn item_of(lost: bool, offset: Ticks, o: Offer) -> Item
 
 // An empty frame takes its header time from its first item.
 fn offset_for(m: Meter, t: Time) -> Ticks
-    ensures { result ≡ offsetFor m t }
+    ensures { result ≡ offset_for m t }
 {
     if m.filled == 0 {
         return Ticks(0);
@@ -138,7 +138,7 @@ fn offset_for(m: Meter, t: Time) -> Ticks
 
 // How far a clock that reads t stands behind the header time; an empty frame has none to be behind.
 pub fn back_for(m: Meter, t: Time) -> Nanos
-    ensures { result ≡ backFor m t }
+    ensures { result ≡ back_for m t }
 {
     if m.filled == 0 {
         return Nanos(0);
@@ -148,14 +148,14 @@ pub fn back_for(m: Meter, t: Time) -> Nanos
 
 // The item that the frame gets at time t, as things stand.
 pub(crate) fn next_item(m: Meter, t: Time, o: Offer) -> Item
-    ensures { result ≡ item_of m.lost (offsetFor m t) o }
+    ensures { result ≡ item_of m.lost (offset_for m t) o }
 {
     item_of(m.lost, offset_for(m, t), o)
 }
 
 // Whether the frame closes before an item with n bytes of payload is added.
 pub(crate) fn closes(m: Meter, t: Time, o: Offer, n: u8) -> bool
-    ensures { result ≡ closesFor m t o n }
+    ensures { result ≡ closes_for m t o n }
 {
     if m.filled == 0 {
         return false;
@@ -190,7 +190,7 @@ fn counted(losses: u32) -> u32
 
 // What closing the frame leaves of the numbers: it waits if there is room, else it is lost.
 pub(crate) fn closed_meter(m: Meter) -> Meter
-    ensures { result ≡ closedMeter m }
+    ensures { result ≡ closed_meter m }
 {
     let mut r = m;
     r.filled = 0;
@@ -205,7 +205,7 @@ pub(crate) fn closed_meter(m: Meter) -> Meter
 
 // The next frame in the ring is the oldest; asked only where one waits.
 pub(crate) fn taken_meter(m: Meter) -> Meter
-    ensures { result ≡ takenMeter m }
+    ensures { result ≡ taken_meter m }
 {
     if m.waiting == 0 {
         return m;
@@ -219,7 +219,7 @@ pub(crate) fn taken_meter(m: Meter) -> Meter
 
 // The frame that is out is lost too; where none is out, nothing is.
 pub(crate) fn failed_meter(m: Meter) -> Meter
-    ensures { result ≡ failedMeter m }
+    ensures { result ≡ failed_meter m }
 {
     if !m.out {
         return m;

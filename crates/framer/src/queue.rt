@@ -1,7 +1,7 @@
 // Closed frames that wait: eight slots of 1,024 bytes in one array, and how long the frame in each is.
 ghost use Rattle.std.specs.Prelude.{◌≡◌, ◌*◌, ◌≤◌, length};
 ghost use Rattle.codec.specs.Number.{Below, over};
-ghost use Rattle.framer.specs.Queue.{emptyQueue, queued, length_at};
+ghost use Rattle.framer.specs.Queue.{empty_queue, queued, length_at};
 
 #[derive(Drop)]
 pub struct Queue {
@@ -10,7 +10,7 @@ pub struct Queue {
 }
 
 pub(crate) fn empty_queue() -> Queue
-    ensures { result ≡ emptyQueue }
+    ensures { result ≡ empty_queue }
 {
     Queue {
         bytes: [0; 8192],

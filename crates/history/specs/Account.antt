@@ -32,8 +32,8 @@ pub record Account : Type 0 where
   pub heard : Bool
 
 -- after setup: not started, the byte 0, unknown and unshown (rule 4)
-unfoldable pub freshAccount : Kind → ℕ → Account
-freshAccount kind network = record {
+unfoldable pub fresh_account : Kind → ℕ → Account
+fresh_account kind network = record {
   kind = kind;
   network = network;
   started = false;
@@ -45,21 +45,21 @@ freshAccount kind network = record {
 }
 
 -- CAN 1, LIN 2, FlexRay 3
-unfoldable pub kindNamed : ℕ → Kind
-kindNamed n = pick (eqb n 1) Kind.Can (pick (eqb n 2) Kind.Lin Kind.FlexRay)
+unfoldable pub kind_named : ℕ → Kind
+kind_named n = pick (eqb n 1) Kind.Can (pick (eqb n 2) Kind.Lin Kind.FlexRay)
 
 -- the sources in the order of setup's list of kinds and ids
-abbrev pub accountsFor : List ℕ → List Account
-accountsFor [] = []
-accountsFor (kind ∷ []) = []
-accountsFor (kind ∷ (id ∷ rest)) = freshAccount (kindNamed kind) id ∷ accountsFor rest
+abbrev pub accounts_for : List ℕ → List Account
+accounts_for [] = []
+accounts_for (kind ∷ []) = []
+accounts_for (kind ∷ (id ∷ rest)) = fresh_account (kind_named kind) id ∷ accounts_for rest
 
-unfoldable pub accountAt : List Account → ℕ → Account
-accountAt book source = get_or book source (freshAccount Kind.Can 0)
+unfoldable pub account_at : List Account → ℕ → Account
+account_at book source = get_or book source (fresh_account Kind.Can 0)
 
 -- starting, also twice, makes the byte 0, unknown and unshown; stopping keeps what is collected (rule 4)
-unfoldable pub startedAccount : Account → Account
-startedAccount a = record {
+unfoldable pub started_account : Account → Account
+started_account a = record {
   kind = a.kind;
   network = a.network;
   started = true;
@@ -70,8 +70,8 @@ startedAccount a = record {
   heard = a.heard;
 }
 
-unfoldable pub stoppedAccount : Account → Account
-stoppedAccount a = record {
+unfoldable pub stopped_account : Account → Account
+stopped_account a = record {
   kind = a.kind;
   network = a.network;
   started = false;
@@ -83,8 +83,8 @@ stoppedAccount a = record {
 }
 
 -- an update makes the byte known (rule 4)
-unfoldable pub updatedAccount : ℕ → Account → Account
-updatedAccount byte a = record {
+unfoldable pub updated_account : ℕ → Account → Account
+updated_account byte a = record {
   kind = a.kind;
   network = a.network;
   started = a.started;
@@ -129,43 +129,43 @@ unfoldable pub differs : Bool → ℕ → Account → Bool
 differs known state a = known && not (a.told && eqb a.shown state)
 
 -- the report shows the state even where no loss is pending (rule 4)
-unfoldable pub showsBy : Bound → Account → Bool
-showsBy b a = differs (a.known || informs b) (written b a.state) a || insists b
+unfoldable pub shows_by : Bound → Account → Bool
+shows_by b a = differs (a.known || informs b) (written b a.state) a || insists b
 
 -- an accepted report (rules 4 and 5)
-unfoldable pub reportEvent : Bound → Account → Time → Ident → Bool → List ℕ → Event
-reportEvent b a t ident carries payload = record {
+unfoldable pub report_event : Bound → Account → Time → Ident → Bool → List ℕ → Event
+report_event b a t ident carries payload = record {
   time = t;
   network = a.network;
   ident = ident;
   carries = carries;
   payload = payload;
   state = written b a.state;
-  due = showsBy b a;
+  due = shows_by b a;
 }
 
 -- and what it leaves: frame-bound bits clear after their item; a byte that is shown for a loss alone was the last shown already
 -- or is unknown, so only what `due` shows counts (rule 4)
-unfoldable pub reportedAccount : Bound → Account → Account
-reportedAccount b a = record {
+unfoldable pub reported_account : Bound → Account → Account
+reported_account b a = record {
   kind = a.kind;
   network = a.network;
   started = a.started;
   state = cleared b (written b a.state);
   known = a.known || informs b;
-  shown = pick (showsBy b a) (written b a.state) a.shown;
-  told = a.told || showsBy b a;
+  shown = pick (shows_by b a) (written b a.state) a.shown;
+  told = a.told || shows_by b a;
   heard = true;
 }
 
 -- a tick: for each started source whose state is known, is unshown or differs from the last shown, and from which no report was
 -- accepted since the last tick (rule 6)
-unfoldable pub callsFor : Account → Bool
-callsFor a = a.started && differs a.known a.state a && not a.heard
+unfoldable pub calls_for : Account → Bool
+calls_for a = a.started && differs a.known a.state a && not a.heard
 
 -- a state-only item
-unfoldable pub stateEvent : Time → Account → Event
-stateEvent t a = record {
+unfoldable pub state_event : Time → Account → Event
+state_event t a = record {
   time = t;
   network = a.network;
   ident = Ident.Bare a.kind;
@@ -175,49 +175,49 @@ stateEvent t a = record {
   due = true;
 }
 
-unfoldable pub tickedAccount : Account → Account
-tickedAccount a = record {
+unfoldable pub ticked_account : Account → Account
+ticked_account a = record {
   kind = a.kind;
   network = a.network;
   started = a.started;
   state = a.state;
   known = a.known;
-  shown = pick (callsFor a) a.state a.shown;
-  told = a.told || callsFor a;
+  shown = pick (calls_for a) a.state a.shown;
+  told = a.told || calls_for a;
   heard = false;
 }
 
 -- in order of source number
-abbrev pub stateEvents : Time → List Account → List Event
-stateEvents t [] = []
-stateEvents t (a ∷ book) = pick (callsFor a) (stateEvent t a ∷ []) [] ++ stateEvents t book
+abbrev pub state_events : Time → List Account → List Event
+state_events t [] = []
+state_events t (a ∷ book) = pick (calls_for a) (state_event t a ∷ []) [] ++ state_events t book
 
 -- what an accepted call gives to be mirrored
-abbrev pub eventsOf : List Account → Meaning → List Event
-eventsOf book (reports source b t ident carries payload) = reportEvent b (accountAt book source) t ident carries payload ∷ []
-eventsOf book (ticks t) = stateEvents t book
-eventsOf book (starts source) = []
-eventsOf book (stops source) = []
-eventsOf book (updates source byte) = []
-eventsOf book takes = []
-eventsOf book fails = []
-eventsOf book (switches size room deadline) = []
-eventsOf book drops = []
-eventsOf book nothing = []
+abbrev pub events_of : List Account → Meaning → List Event
+events_of book (reports source b t ident carries payload) = report_event b (account_at book source) t ident carries payload ∷ []
+events_of book (ticks t) = state_events t book
+events_of book (starts source) = []
+events_of book (stops source) = []
+events_of book (updates source byte) = []
+events_of book takes = []
+events_of book fails = []
+events_of book (switches size room deadline) = []
+events_of book drops = []
+events_of book nothing = []
 
 -- one account changed
 unfoldable pub changed : List Account → ℕ → (Account → Account) → List Account
-changed book source f = set book source (f (accountAt book source))
+changed book source f = set book source (f (account_at book source))
 
 -- the accounts after an accepted call
-abbrev pub accountsOf : List Account → Meaning → List Account
-accountsOf book (starts source) = changed book source startedAccount
-accountsOf book (stops source) = changed book source stoppedAccount
-accountsOf book (updates source byte) = changed book source (updatedAccount byte)
-accountsOf book (reports source b t ident carries payload) = changed book source (reportedAccount b)
-accountsOf book (ticks t) = map tickedAccount book
-accountsOf book takes = book
-accountsOf book fails = book
-accountsOf book (switches size room deadline) = book
-accountsOf book drops = book
-accountsOf book nothing = book
+abbrev pub accounts_of : List Account → Meaning → List Account
+accounts_of book (starts source) = changed book source started_account
+accounts_of book (stops source) = changed book source stopped_account
+accounts_of book (updates source byte) = changed book source (updated_account byte)
+accounts_of book (reports source b t ident carries payload) = changed book source (reported_account b)
+accounts_of book (ticks t) = map ticked_account book
+accounts_of book takes = book
+accounts_of book fails = book
+accounts_of book (switches size room deadline) = book
+accounts_of book drops = book
+accounts_of book nothing = book

@@ -24,18 +24,18 @@ abbrev pub Typed : Call → Type 0
 Typed x = Plain x ⊎ Resets (meaning x)
 
 -- switch brings a new F, Q and D; no other call changes them
-abbrev pub limitsOf : Limits → Meaning → Limits
-limitsOf c (switches size room deadline) = record { size = size; room = room; deadline = deadline }
-limitsOf c drops = c
-limitsOf c (starts source) = c
-limitsOf c (stops source) = c
-limitsOf c (updates source byte) = c
-limitsOf c (reports source b t ident carries payload) = c
-limitsOf c (ticks t) = c
-limitsOf c takes = c
-limitsOf c fails = c
-limitsOf c nothing = c
+abbrev pub limits_of : Limits → Meaning → Limits
+limits_of c (switches size room deadline) = record { size = size; room = room; deadline = deadline }
+limits_of c drops = c
+limits_of c (starts source) = c
+limits_of c (stops source) = c
+limits_of c (updates source byte) = c
+limits_of c (reports source b t ident carries payload) = c
+limits_of c (ticks t) = c
+limits_of c takes = c
+limits_of c fails = c
+limits_of c nothing = c
 
-abbrev pub limitsOn : Limits → List Deed → Limits
-limitsOn c [] = c
-limitsOn c (d ∷ ds) = limitsOn (pick (done d) (limitsOf c (meaning d.call)) c) ds
+abbrev pub limits_on : Limits → List Deed → Limits
+limits_on c [] = c
+limits_on c (d ∷ ds) = limits_on (pick (done d) (limits_of c (meaning d.call)) c) ds

@@ -13,22 +13,22 @@ unfoldable pub behind : Ledger → Time → ℕ
 behind l t = pick (is_empty l.filling.lines) 0 (min (ns l.filling.time - ns t) 4294967295)
 
 -- the clock is read by a report and by a tick
-abbrev pub clockIn : Meaning → List Time
-clockIn (reports source b t ident carries payload) = t ∷ []
-clockIn (ticks t) = t ∷ []
-clockIn (starts source) = []
-clockIn (stops source) = []
-clockIn (updates source byte) = []
-clockIn takes = []
-clockIn fails = []
-clockIn (switches size room deadline) = []
-clockIn drops = []
-clockIn nothing = []
+abbrev pub clock_in : Meaning → List Time
+clock_in (reports source b t ident carries payload) = t ∷ []
+clock_in (ticks t) = t ∷ []
+clock_in (starts source) = []
+clock_in (stops source) = []
+clock_in (updates source byte) = []
+clock_in takes = []
+clock_in fails = []
+clock_in (switches size room deadline) = []
+clock_in drops = []
+clock_in nothing = []
 
 -- what they tell, where they find the ledger l: that number if they are answered 0, else 0
-unfoldable pub tellsBy : Ledger → Deed → List ℕ
-tellsBy l d = map (λ t. pick (done d) (behind l t) 0) (clockIn (meaning d.call))
+unfoldable pub tells_by : Ledger → Deed → List ℕ
+tells_by l d = map (λ t. pick (done d) (behind l t) 0) (clock_in (meaning d.call))
 
 -- what the engine said beside its answer
-unfoldable pub saysBy : Deed → List ℕ
-saysBy d = map (λ t. d.said.number) (clockIn (meaning d.call))
+unfoldable pub says_by : Deed → List ℕ
+says_by d = map (λ t. d.said.number) (clock_in (meaning d.call))

@@ -4,8 +4,8 @@ use Rattle.codec.specs.Choice.{pick}
 use Rattle.mirror.specs.Call.{Call, Said, step_of}
 use Rattle.mirror.specs.declared.engine.Engine.{Engine}
 use Rattle.history.specs.Meaning.{Meaning, starts, stops, updates, reports, ticks, takes, fails, switches, drops, nothing, meaning}
-use Rattle.history.specs.Account.{Account, Event, eventsOf, accountsOf}
-use Rattle.history.specs.Ledger.{Limits, Ledger, emptyLedger, Op, runL}
+use Rattle.history.specs.Account.{Account, Event, events_of, accounts_of}
+use Rattle.history.specs.Ledger.{Limits, Ledger, empty_ledger, Op, run_l}
 use Rattle.history.specs.Ledger as Op
 
 pub record Deed : Type 0 where
@@ -13,9 +13,9 @@ pub record Deed : Type 0 where
   pub said : Said
 
 -- the engine's own answers to a list of calls, one after the other
-abbrev pub deedsOf : Engine → List Call → List Deed
-deedsOf e [] = []
-deedsOf e (x ∷ xs) = record { call = x; said = (step_of e x).said } ∷ deedsOf (step_of e x).engine xs
+abbrev pub deeds_of : Engine → List Call → List Deed
+deeds_of e [] = []
+deeds_of e (x ∷ xs) = record { call = x; said = (step_of e x).said } ∷ deeds_of (step_of e x).engine xs
 
 unfoldable pub done : Deed → Bool
 done d = eqb d.said.answer 0
@@ -34,22 +34,22 @@ besides drops = []
 besides nothing = []
 
 unfoldable pub ops_of : List Account → Meaning → List Op
-ops_of book m = map Op.event (eventsOf book m) ++ besides m
+ops_of book m = map Op.event (events_of book m) ++ besides m
 
 -- the accounts after a deed
-unfoldable pub accountsBy : List Account → Deed → List Account
-accountsBy book d = pick (done d) (accountsOf book (meaning d.call)) book
+unfoldable pub accounts_by : List Account → Deed → List Account
+accounts_by book d = pick (done d) (accounts_of book (meaning d.call)) book
 
 -- the accepted reports and the state items that rules 4 and 6 call for, in order
-abbrev pub eventsOn : List Account → List Deed → List Event
-eventsOn book [] = []
-eventsOn book (d ∷ ds) = pick (done d) (eventsOf book (meaning d.call)) [] ++ eventsOn (accountsBy book d) ds
+abbrev pub events_on : List Account → List Deed → List Event
+events_on book [] = []
+events_on book (d ∷ ds) = pick (done d) (events_of book (meaning d.call)) [] ++ events_on (accounts_by book d) ds
 
 -- the same with deadlines, takes and failed sends between them
-abbrev pub opsOn : List Account → List Deed → List Op
-opsOn book [] = []
-opsOn book (d ∷ ds) = pick (done d) (ops_of book (meaning d.call)) [] ++ opsOn (accountsBy book d) ds
+abbrev pub ops_on : List Account → List Deed → List Op
+ops_on book [] = []
+ops_on book (d ∷ ds) = pick (done d) (ops_of book (meaning d.call)) [] ++ ops_on (accounts_by book d) ds
 
 -- the ledger that they leave
-unfoldable pub ledgerOf : Limits → List Account → List Deed → Ledger
-ledgerOf c book ds = runL c emptyLedger (opsOn book ds)
+unfoldable pub ledger_of : Limits → List Account → List Deed → Ledger
+ledger_of c book ds = run_l c empty_ledger (ops_on book ds)

@@ -32,15 +32,15 @@ pub data Meaning : Type 0 where
 
 -- the state byte of a CAN update: online 64, error-passive 32, bus-off 16, the counter divided by 8 and cut to 15; offline makes
 -- all of it zero
-unfoldable pub canState : Bool → Bool → Bool → ℕ → ℕ
-canState online passive busOff counter = pick online (64 + bit passive * 32 + bit busOff * 16 + min (counter / 8) 15) 0
+unfoldable pub can_state : Bool → Bool → Bool → ℕ → ℕ
+can_state online passive busOff counter = pick online (64 + bit passive * 32 + bit busOff * 16 + min (counter / 8) 15) 0
 
 -- a LIN update gives online only, a FlexRay update online and bits 5 and 4; a frame report carries id and payload, a conflict and an
 -- error without a frame id and state (rule 5); filters are no matter of the ledger: whether a report passed them, its answer tells
 abbrev pub meaning : Call → Meaning
 meaning (Call.start source) = starts source
 meaning (Call.stop source) = stops source
-meaning (Call.can-state source online passive busOff counter) = updates source (canState online passive busOff counter)
+meaning (Call.can-state source online passive busOff counter) = updates source (can_state online passive busOff counter)
 meaning (Call.lin-state source online) = updates source (bit online * 64)
 meaning (Call.flexray-state source online bits) = updates source (bit online * 64 + bits)
 meaning (Call.can source t key payload) = reports source none t (Ident.Can key) true payload

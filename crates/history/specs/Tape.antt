@@ -2,7 +2,7 @@
 use Rattle.std.specs.Prelude.{ℕ, ◌≡◌, List, length, ℤ}
 use Rattle.codec.specs.declared.time.Time.{Time}
 use Rattle.reader.specs.Listing.{Yield, stepping}
-use Rattle.tape.specs.Sample.{apartOf, sampleOf, SameOrNext, position_of}
+use Rattle.tape.specs.Sample.{apart_of, sample_of, SameOrNext, position_of}
 use Rattle.tape.specs.declared.sample.Placed.{Placed}
 use Rattle.tape.specs.declared.sample.Placed.TheVariants as Placed
 use Rattle.history.specs.Ledger.{Line, Frame}
@@ -11,7 +11,7 @@ use Rattle.history.specs.History.{Both}
 -- what the reader yields lies on the sample of the time that was reported or on the one before it; and so do the positions,
 -- where both are answered
 pub record OnTape (start : Time) (y : Yield) (x : Line) : Type 0 where
-  pub sample : SameOrNext (sampleOf (apartOf start y.time)) (sampleOf (apartOf start x.event.time))
+  pub sample : SameOrNext (sample_of (apart_of start y.time)) (sample_of (apart_of start x.event.time))
   pub position : (p q : ℤ) → position_of start y.time ≡ Placed.Sample p → position_of start x.event.time ≡ Placed.Sample q → SameOrNext p q
 
 -- all items of a frame, as they are read from its bytes

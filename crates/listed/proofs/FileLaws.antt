@@ -8,38 +8,38 @@ use lib.Dec.{ltb, leb, eqb}
 use borrow.Author.Tests.{le-leb, ltb-false}
 use Rattle.codec.specs.Choice.{pick}
 use Rattle.codec.specs.Field.{bytes_at}
-use Rattle.recording.specs.File.{Finding, Listing, verdict, keeps, frameFound, noteFound, start_in, startFound}
-use Rattle.recording.specs.Pieces.{fresh, next_of, keptOf, endsOf, place_of, usedOf, bufferOf, size_of, foundOf, length_of}
-use Rattle.recording.specs.Calls.{noted, onPiece, onPieces, join}
+use Rattle.recording.specs.File.{Finding, Listing, verdict, keeps, frame_found, note_found, start_in, start_found}
+use Rattle.recording.specs.Pieces.{fresh, next_of, kept_of, ends_of, place_of, used_of, buffer_of, size_of, found_of, length_of}
+use Rattle.recording.specs.Calls.{noted, on_piece, on_pieces, join}
 use Rattle.recording.specs.declared.pieces.Place.{Place}
 use Rattle.recording.specs.declared.pieces.Seen.{Seen}
 use Rattle.recording.specs.declared.pieces.Seen.TheVariants as Seen
 use Rattle.recording.proofs.InPieces.{in-pieces}
-use Rattle.tape.specs.Start.{after_of, afterAll}
+use Rattle.tape.specs.Start.{after_of, after_all}
 use Rattle.tape.specs.declared.microphone.Microphone.{Microphone}
 use Rattle.tape.specs.declared.microphone.Microphone.TheVariants as Microphone
-use Rattle.listing.specs.Field.{foundLines}
-use Rattle.listed.specs.File.{lines_of, endLines, listed_of, seenLines, afterSeen, pieceLines, piecesLines, written_of}
+use Rattle.listing.specs.Field.{found_lines}
+use Rattle.listed.specs.File.{lines_of, end_lines, listed_of, seen_lines, after_seen, piece_lines, pieces_lines, written_of}
 
 -- the lines of a field are those of its own bytes and of the start in force before it
-pub lines_split : (m : Microphone) (fs gs : List Finding) → lines_of m (fs ++ gs) ≡ lines_of m fs ++ lines_of (afterAll m fs) gs
+pub lines_split : (m : Microphone) (fs gs : List Finding) → lines_of m (fs ++ gs) ≡ lines_of m fs ++ lines_of (after_all m fs) gs
 lines_split m [] gs = refl
 lines_split m (f ∷ fs) gs =
-    ap (λ xs. foundLines m f.tag f.size f.found f.body ++ xs) (lines_split (after_of m f.found) fs gs)
-    ∙ sym (append_assoc (foundLines m f.tag f.size f.found f.body) (lines_of (after_of m f.found) fs) (lines_of (afterAll (after_of m f.found) fs) gs))
+    ap (λ xs. found_lines m f.tag f.size f.found f.body ++ xs) (lines_split (after_of m f.found) fs gs)
+    ∙ sym (append_assoc (found_lines m f.tag f.size f.found f.body) (lines_of (after_of m f.found) fs) (lines_of (after_all (after_of m f.found) fs) gs))
 
 -- a body that was not kept is not shown either
-shown-kept : (m : Microphone) (tag n : ℕ) (b x : List ℕ) → foundLines m tag n (verdict tag n b) (pick (keeps tag n) x []) ≡ foundLines m tag n (verdict tag n b) x
-unfolding verdict keeps frameFound noteFound startFound
-shown-kept m tag n b x = go (eqb tag 1) refl (eqb tag 2) refl (eqb tag 3) refl (ltb 1472 n) refl
+shown_kept : (m : Microphone) (tag n : ℕ) (b x : List ℕ) → found_lines m tag n (verdict tag n b) (pick (keeps tag n) x []) ≡ found_lines m tag n (verdict tag n b) x
+unfolding verdict keeps frame_found note_found start_found
+shown_kept m tag n b x = go (eqb tag 1) refl (eqb tag 2) refl (eqb tag 3) refl (ltb 1472 n) refl
   where
     start : (w : Bool) → (eqb n 10 && leb (start_in b).nano 999999999) ≡ w → eqb tag 1 ≡ false → eqb tag 2 ≡ false → eqb tag 3 ≡ true
-        → foundLines m tag n (verdict tag n b) (pick (keeps tag n) x []) ≡ foundLines m tag n (verdict tag n b) x
+        → found_lines m tag n (verdict tag n b) (pick (keeps tag n) x []) ≡ found_lines m tag n (verdict tag n b) x
     start true e p q r = simp (p, q, r, e)
     start false e p q r = simp (p, q, r, e)
 
     go : (a : Bool) → eqb tag 1 ≡ a → (c : Bool) → eqb tag 2 ≡ c → (d : Bool) → eqb tag 3 ≡ d → (l : Bool) → ltb 1472 n ≡ l
-        → foundLines m tag n (verdict tag n b) (pick (keeps tag n) x []) ≡ foundLines m tag n (verdict tag n b) x
+        → found_lines m tag n (verdict tag n b) (pick (keeps tag n) x []) ≡ found_lines m tag n (verdict tag n b) x
     go true p c q d r true s = simp (p, s)
     go true p c q d r false s = simp (p, s, le-leb n 1472 (ltb-false 1472 n s))
     go false p true q d r true s = simp (p, q, s)
@@ -50,67 +50,67 @@ shown-kept m tag n b x = go (eqb tag 1) refl (eqb tag 2) refl (eqb tag 3) refl (
 -- so what a call saw is written as its finding is listed
 module _ (m : Microphone) (p : Place) (buffer piece : List ℕ) where
   abbrev Same : Type 0
-  Same = lines_of m (noted (next_of p buffer piece).seen (keptOf p buffer piece)) ≡ seenLines m (next_of p buffer piece).seen (keptOf p buffer piece)
+  Same = lines_of m (noted (next_of p buffer piece).seen (kept_of p buffer piece)) ≡ seen_lines m (next_of p buffer piece).seen (kept_of p buffer piece)
 
   seen-lines : Same
-  unfolding next_of keptOf endsOf foundOf
-  seen-lines = go (ltb ((place_of p piece).past + usedOf (place_of p piece) (length piece)) (size_of (place_of p piece))) refl
+  unfolding next_of kept_of ends_of found_of
+  seen-lines = go (ltb ((place_of p piece).past + used_of (place_of p piece) (length piece)) (size_of (place_of p piece))) refl
     where
-      go : (b : Bool) → ltb ((place_of p piece).past + usedOf (place_of p piece) (length piece)) (size_of (place_of p piece)) ≡ b → Same
+      go : (b : Bool) → ltb ((place_of p piece).past + used_of (place_of p piece) (length piece)) (size_of (place_of p piece)) ≡ b → Same
       go true e = simp e
       go false e =
           let q = place_of p piece in
-          let k = bufferOf q buffer piece in
+          let k = buffer_of q buffer piece in
           let b = bytes_at k 0 (length_of q) in
           rw e
-          (append-nil (foundLines m q.tag (length_of q) (verdict q.tag (length_of q) b) (pick (keeps q.tag (length_of q)) (take (length_of q) k) []))
-          ∙ shown-kept m q.tag (length_of q) b (take (length_of q) k))
+          (append-nil (found_lines m q.tag (length_of q) (verdict q.tag (length_of q) b) (pick (keeps q.tag (length_of q)) (take (length_of q) k) []))
+          ∙ shown_kept m q.tag (length_of q) b (take (length_of q) k))
 
-after-seen : (m : Microphone) (s : Seen) (buffer : List ℕ) → afterAll m (noted s buffer) ≡ afterSeen m s
+after-seen : (m : Microphone) (s : Seen) (buffer : List ℕ) → after_all m (noted s buffer) ≡ after_seen m s
 after-seen m (Seen.Field f) buffer = refl
 after-seen m Seen.More buffer = refl
 
 -- the calls on a piece, and on all pieces
 abbrev Lists : ℕ → Type 0
-Lists n = (m : Microphone) (p : Place) (buffer piece : List ℕ) → pieceLines n m p buffer piece ≡ lines_of m (onPiece n p buffer piece).findings
+Lists n = (m : Microphone) (p : Place) (buffer piece : List ℕ) → piece_lines n m p buffer piece ≡ lines_of m (on_piece n p buffer piece).findings
 
-piece-more : (n : ℕ) → Lists n → Lists (suc n)
-unfolding pieceLines onPiece
-piece-more n ih m p buffer piece = go (eqb (length piece) 0) refl
+piece_more : (n : ℕ) → Lists n → Lists (suc n)
+unfolding piece_lines on_piece
+piece_more n ih m p buffer piece = go (eqb (length piece) 0) refl
   where
-    go : (b : Bool) → eqb (length piece) 0 ≡ b → pieceLines (suc n) m p buffer piece ≡ lines_of m (onPiece (suc n) p buffer piece).findings
+    go : (b : Bool) → eqb (length piece) 0 ≡ b → piece_lines (suc n) m p buffer piece ≡ lines_of m (on_piece (suc n) p buffer piece).findings
     go true e = simp e
     go false e =
         let s = next_of p buffer piece in
-        let k = keptOf p buffer piece in
+        let k = kept_of p buffer piece in
         let rest = drop s.used piece in
         rw (
           e,
-          lines_split m (noted s.seen k) (onPiece n s.place k rest).findings,
+          lines_split m (noted s.seen k) (on_piece n s.place k rest).findings,
           seen-lines m p buffer piece,
           after-seen m s.seen k,
-          ih (afterSeen m s.seen) s.place k rest,
+          ih (after_seen m s.seen) s.place k rest,
         )
 
 piece-lines : (n : ℕ) → Lists n
-unfolding pieceLines onPiece
+unfolding piece_lines on_piece
 piece-lines zero m p buffer piece = refl
-piece-lines (suc n) m p buffer piece = piece-more n (piece-lines n) m p buffer piece
+piece-lines (suc n) m p buffer piece = piece_more n (piece-lines n) m p buffer piece
 
-pieces-lines : (ts : List (List ℕ)) (m : Microphone) (p : Place) (buffer : List ℕ) → piecesLines m p buffer ts ≡ lines_of m (onPieces p buffer ts).findings
-unfolding piecesLines onPieces
+pieces-lines : (ts : List (List ℕ)) (m : Microphone) (p : Place) (buffer : List ℕ) → pieces_lines m p buffer ts ≡ lines_of m (on_pieces p buffer ts).findings
+unfolding pieces_lines on_pieces
 pieces-lines [] m p buffer = refl
 pieces-lines (t ∷ ts) m p buffer =
-    let r = onPiece (length t) p buffer t in
+    let r = on_piece (length t) p buffer t in
     rw (
-      lines_split m r.findings (onPieces r.place r.buffer ts).findings,
+      lines_split m r.findings (on_pieces r.place r.buffer ts).findings,
       piece-lines (length t) m p buffer t,
-      pieces-lines ts (afterAll m r.findings) r.place r.buffer,
+      pieces-lines ts (after_all m r.findings) r.place r.buffer,
     )
 
 -- however a file is cut, and whatever the buffer held, what is written are the lines of the whole
-pub listed-in-pieces : (buffer : List ℕ) (ts : List (List ℕ)) → length buffer ≡ 1472 → written_of buffer ts ≡ listed_of (join ts)
+pub listed_in_pieces : (buffer : List ℕ) (ts : List (List ℕ)) → length buffer ≡ 1472 → written_of buffer ts ≡ listed_of (join ts)
 unfolding written_of listed_of
-listed-in-pieces buffer ts e =
+listed_in_pieces buffer ts e =
     rw (pieces-lines ts Microphone.Silent (fresh 0) buffer)
-    (ap (λ (l : Listing). lines_of Microphone.Silent l.findings ++ endLines l) (in-pieces buffer ts e))
+    (ap (λ (l : Listing). lines_of Microphone.Silent l.findings ++ end_lines l) (in-pieces buffer ts e))

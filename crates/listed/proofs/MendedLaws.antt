@@ -2,34 +2,34 @@
 use Prim.Native.Nat.{ℕ}
 use mathlib.Core.Path.{◌≡◌, refl, ◌∙◌, ap}
 use mathlib.Core.List.{List, [], ◌∷◌, ◌++◌}
-use Rattle.recording.specs.File.{Finding, Listing, findingsOf, listingOf}
+use Rattle.recording.specs.File.{Finding, Listing, findings_of, listing_of}
 use Rattle.recording.specs.declared.field.Found.{Found}
 use Rattle.recording.specs.declared.field.Found.TheVariants as Found
 use Rattle.tape.specs.declared.microphone.Microphone.{Microphone}
 use Rattle.tape.specs.declared.microphone.Microphone.TheVariants as Microphone
-use Rattle.listing.specs.Line.{endLine}
+use Rattle.listing.specs.Line.{end_line}
 use Rattle.mending.specs.Copy.{copy_of, stayed}
-use Rattle.mending.proofs.CheckLaws.{list-of-copy}
-use Rattle.listed.specs.File.{lines_of, endLines, listed_of}
+use Rattle.mending.proofs.CheckLaws.{list_of_copy}
+use Rattle.listed.specs.File.{lines_of, end_lines, listed_of}
 use Rattle.listed.specs.Mended.{unrefused}
 
 -- a refused field changes no start in force, so that no line of another one moves
 abbrev Lists : List Finding → Type 0
 Lists fs = (m : Microphone) → lines_of m (stayed fs) ≡ unrefused m fs
 
-lists-more : (f : Finding) (fs : List Finding) (x : Found) → f.found ≡ x → Lists fs → Lists (f ∷ fs)
-lists-more f fs (Found.Frame h) e i m = simp (e, i m)
-lists-more f fs Found.Note e i m = simp (e, i m)
-lists-more f fs (Found.Start t) e i m = simp (e, i (Microphone.Since t))
-lists-more f fs (Found.Refused answer) e i m = simp (e, i m)
-lists-more f fs Found.Skipped e i m = simp (e, i m)
+lists_more : (f : Finding) (fs : List Finding) (x : Found) → f.found ≡ x → Lists fs → Lists (f ∷ fs)
+lists_more f fs (Found.Frame h) e i m = simp (e, i m)
+lists_more f fs Found.Note e i m = simp (e, i m)
+lists_more f fs (Found.Start t) e i m = simp (e, i (Microphone.Since t))
+lists_more f fs (Found.Refused answer) e i m = simp (e, i m)
+lists_more f fs Found.Skipped e i m = simp (e, i m)
 
-lists-stayed : (fs : List Finding) → Lists fs
-lists-stayed [] m = refl
-lists-stayed (f ∷ fs) m = lists-more f fs f.found refl (lists-stayed fs) m
+lists_stayed : (fs : List Finding) → Lists fs
+lists_stayed [] m = refl
+lists_stayed (f ∷ fs) m = lists_more f fs f.found refl (lists_stayed fs) m
 
-pub mended-lists : (s : List ℕ) → listed_of (copy_of s) ≡ unrefused Microphone.Silent (findingsOf s) ++ (endLine 0 (listingOf s).skipped ∷ [])
+pub mended_lists : (s : List ℕ) → listed_of (copy_of s) ≡ unrefused Microphone.Silent (findings_of s) ++ (end_line 0 (listing_of s).skipped ∷ [])
 unfolding listed_of
-mended-lists s =
-    ap (λ (l : Listing). lines_of Microphone.Silent l.findings ++ endLines l) (list-of-copy s)
-    ∙ rw (lists-stayed (findingsOf s) Microphone.Silent)
+mended_lists s =
+    ap (λ (l : Listing). lines_of Microphone.Silent l.findings ++ end_lines l) (list_of_copy s)
+    ∙ rw (lists_stayed (findings_of s) Microphone.Silent)

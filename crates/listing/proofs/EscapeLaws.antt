@@ -7,24 +7,24 @@ use native.Mathlib.Omega.{arith}
 use lib.ListN.{length, length-append}
 use borrow.Author.Tests.{leb-true, leb-false, not-true, not-false}
 use Rattle.text.specs.Put.{hexes}
-use Rattle.listing.specs.Line.{plain, escapeOf, spread, noteFits, noteLine}
+use Rattle.listing.specs.Line.{plain, escape_of, spread, note_fits, note_line}
 
-pub escape-plain : (b : ℕ) → plain b ≡ true → escapeOf b ≡ b ∷ []
-unfolding escapeOf
-escape-plain b e = rw e
+pub escape_plain : (b : ℕ) → plain b ≡ true → escape_of b ≡ b ∷ []
+unfolding escape_of
+escape_plain b e = rw e
 
-pub escape-code : (b : ℕ) → plain b ≡ false → escapeOf b ≡ 92 ∷ 120 ∷ hexes (b ∷ [])
-unfolding escapeOf
-escape-code b e = rw e
+pub escape_code : (b : ℕ) → plain b ≡ false → escape_of b ≡ 92 ∷ 120 ∷ hexes (b ∷ [])
+unfolding escape_of
+escape_code b e = rw e
 
-pub note-length : (bs : List ℕ) → length (noteLine bs) ≡ length (spread escapeOf bs) + 6
-unfolding noteLine
-note-length bs = simp length-append (omega arith)
+pub note_length : (bs : List ℕ) → length (note_line bs) ≡ length (spread escape_of bs) + 6
+unfolding note_line
+note_length bs = simp length-append (omega arith)
 
-pub room-left : (bs : List ℕ) (room : ℕ) {r : Bool} → r ≡ noteFits bs room → not r ≡ false → length (spread escapeOf bs) ≤ room
-unfolding noteFits
-room-left bs room {r} e h = leb-true (length (spread escapeOf bs)) room (sym e ∙ not-false r h)
+pub room_left : (bs : List ℕ) (room : ℕ) {r : Bool} → r ≡ note_fits bs room → not r ≡ false → length (spread escape_of bs) ≤ room
+unfolding note_fits
+room_left bs room {r} e h = leb-true (length (spread escape_of bs)) room (sym e ∙ not-false r h)
 
-pub no-room-left : (bs : List ℕ) (room : ℕ) {r : Bool} → r ≡ noteFits bs room → not r ≡ true → room < length (spread escapeOf bs)
-unfolding noteFits
-no-room-left bs room {r} e h = leb-false (length (spread escapeOf bs)) room (sym e ∙ not-true r h)
+pub no_room_left : (bs : List ℕ) (room : ℕ) {r : Bool} → r ≡ note_fits bs room → not r ≡ true → room < length (spread escape_of bs)
+unfolding note_fits
+no_room_left bs room {r} e h = leb-false (length (spread escape_of bs)) room (sym e ∙ not-true r h)

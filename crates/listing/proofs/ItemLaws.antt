@@ -8,26 +8,26 @@ use Rattle.codec.specs.Choice.{pick}
 use Rattle.codec.specs.declared.time.Time.{Time}
 use Rattle.codec.specs.declared.item.Item.{Item}
 use Rattle.tape.specs.declared.microphone.Microphone.{Microphone}
-use Rattle.listing.specs.Line.{fixed_of, spread, bytesText, frontText, itemLine}
+use Rattle.listing.specs.Line.{fixed_of, spread, bytes_text, front_text, item_line}
 use Rattle.listing.proofs.SpreadLaws.{pairs-length}
 
-no_bytes : (bs : List ℕ) → length bs ≡ 0 → bytesText bs ≡ 45 ∷ []
+no_bytes : (bs : List ℕ) → length bs ≡ 0 → bytes_text bs ≡ 45 ∷ []
 no_bytes [] e = refl
 no_bytes (b ∷ bs) e = absurd (omega arith)
 
-some_bytes : (bs : List ℕ) → (length bs ≡ 0 → ⊥) → bytesText bs ≡ spread (fixed_of 16 2) bs
+some_bytes : (bs : List ℕ) → (length bs ≡ 0 → ⊥) → bytes_text bs ≡ spread (fixed_of 16 2) bs
 some_bytes [] h = absurd (h refl)
 some_bytes (b ∷ bs) h = refl
 
 -- cs is what the item carries
 module _ (m : Microphone) (t : Time) (it : Item) (bs cs : List ℕ) (e : cs ≡ pick it.carries bs []) where
-  pub item-bare : length cs ≡ 0 → itemLine m t it bs ≡ frontText m t it (length bs) ++ (45 ∷ 10 ∷ [])
-  unfolding itemLine
-  item-bare h = rw (← e, no_bytes cs h) (append_assoc (frontText m t it (length bs)) (45 ∷ []) (10 ∷ []))
+  pub item_bare : length cs ≡ 0 → item_line m t it bs ≡ front_text m t it (length bs) ++ (45 ∷ 10 ∷ [])
+  unfolding item_line
+  item_bare h = rw (← e, no_bytes cs h) (append_assoc (front_text m t it (length bs)) (45 ∷ []) (10 ∷ []))
 
-  pub item-loaded : (length cs ≡ 0 → ⊥) → itemLine m t it bs ≡ frontText m t it (length bs) ++ spread (fixed_of 16 2) cs ++ (10 ∷ [])
-  unfolding itemLine
-  item-loaded h = rw (← e, some_bytes cs h)
+  pub item_loaded : (length cs ≡ 0 → ⊥) → item_line m t it bs ≡ front_text m t it (length bs) ++ spread (fixed_of 16 2) cs ++ (10 ∷ [])
+  unfolding item_line
+  item_loaded h = rw (← e, some_bytes cs h)
 
-pub ended-length : (xs bs : List ℕ) → length (xs ++ spread (fixed_of 16 2) bs ++ (10 ∷ [])) ≡ length xs + 2 * length bs + 1
-ended-length xs bs = simp (length-append, pairs-length)
+pub ended_length : (xs bs : List ℕ) → length (xs ++ spread (fixed_of 16 2) bs ++ (10 ∷ [])) ≡ length xs + 2 * length bs + 1
+ended_length xs bs = simp (length-append, pairs-length)

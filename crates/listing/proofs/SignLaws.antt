@@ -12,14 +12,14 @@ use borrow.Author.Tests.{le-ltb, ltb-true}
 use Rattle.codec.proofs.Opened.{never}
 
 -- what holds of each number below zero, holds of one that a test has found below it; and so of the others
-pub when-below : (P : ℤ → Type 0) {z : ℤ} → SFits w64 z → lt_z (to_z w64 (of_z w64 z)) (pos 0) ≡ true → ((a : ℕ) → a < 9223372036854775808 → P (negsuc a)) → P z
-when-below P {z = pos n} f e p =
+pub when_below : (P : ℤ → Type 0) {z : ℤ} → SFits w64 z → lt_z (to_z w64 (of_z w64 z)) (pos 0) ≡ true → ((a : ℕ) → a < 9223372036854775808 → P (negsuc a)) → P z
+when_below P {z = pos n} f e p =
     let l = ltb-true n 0 (sym (ap (λ (z : ℤ). lt_z z (pos 0)) (to_z-of_z f)) ∙ e) in never (omega arith)
-when-below P {z = negsuc a} f e p = p a f.sfits
+when_below P {z = negsuc a} f e p = p a f.sfits
 
-pub when-not : (P : ℤ → Type 0) {z : ℤ} → SFits w64 z → lt_z (to_z w64 (of_z w64 z)) (pos 0) ≡ false → ((a : ℕ) → a < 9223372036854775808 → P (pos a)) → P z
-when-not P {z = pos a} f e p = p a f.sfits
-when-not P {z = negsuc a} f e p = absurd (true≢false (sym (ap (λ (z : ℤ). lt_z z (pos 0)) (to_z-of_z f)) ∙ e))
+pub when_not : (P : ℤ → Type 0) {z : ℤ} → SFits w64 z → lt_z (to_z w64 (of_z w64 z)) (pos 0) ≡ false → ((a : ℕ) → a < 9223372036854775808 → P (pos a)) → P z
+when_not P {z = pos a} f e p = p a f.sfits
+when_not P {z = negsuc a} f e p = absurd (true≢false (sym (ap (λ (z : ℤ). lt_z z (pos 0)) (to_z-of_z f)) ∙ e))
 
 -- one less turned round
 turned : (a : ℕ) → negsuc 0 -ℤ negsuc a ≡ pos a

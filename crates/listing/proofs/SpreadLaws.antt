@@ -13,22 +13,22 @@ use borrow.Author.Tests.{le-leb, lt-leb}
 use Rattle.codec.specs.Number.{Sized}
 use Rattle.text.specs.Short.{Short}
 use Rattle.listing.specs.Line.{fixed_of, spread}
-use Rattle.listing.proofs.FixedLaws.{fixed-length}
+use Rattle.listing.proofs.FixedLaws.{fixed_length}
 
-sets-append : (xs ys l : List ℕ) (i : ℕ) → sets l i (xs ++ ys) ≡ sets (sets l i xs) (i + length xs) ys
-sets-append [] ys l i = rw (add-zero i)
-sets-append (x ∷ xs) ys l i =
+sets_append : (xs ys l : List ℕ) (i : ℕ) → sets l i (xs ++ ys) ≡ sets (sets l i xs) (i + length xs) ys
+sets_append [] ys l i = rw (add-zero i)
+sets_append (x ∷ xs) ys l i =
     let e : suc i + length xs ≡ i + suc (length xs) = omega arith in
-    sets-append xs ys (set l i x) (suc i) ∙ ap (λ (k : ℕ). sets (sets (set l i x) (suc i) xs) k ys) e
+    sets_append xs ys (set l i x) (suc i) ∙ ap (λ (k : ℕ). sets (sets (set l i x) (suc i) xs) k ys) e
 
 module _ (f : ℕ → List ℕ) where
   -- the byte at i, and the rest
-  next-byte : (src : List ℕ) (i : ℕ) → i < length src → spread f (drop i src) ≡ f (get_or src i 0) ++ spread f (drop (suc i) src)
-  next-byte src i h = ap (spread f) (drop-cons src i 0 h)
+  next_byte : (src : List ℕ) (i : ℕ) → i < length src → spread f (drop i src) ≡ f (get_or src i 0) ++ spread f (drop (suc i) src)
+  next_byte src i h = ap (spread f) (drop-cons src i 0 h)
 
-  next-length : (src : List ℕ) (i : ℕ) → i < length src
+  next_length : (src : List ℕ) (i : ℕ) → i < length src
       → length (spread f (drop i src)) ≡ length (f (get_or src i 0)) + length (spread f (drop (suc i) src))
-  next-length src i h = ap length (next-byte src i h) ∙ length-append (f (get_or src i 0)) (spread f (drop (suc i) src))
+  next_length src i h = ap length (next_byte src i h) ∙ length-append (f (get_or src i 0)) (spread f (drop (suc i) src))
 
   none_left : (src : List ℕ) (i : ℕ) → length src ≤ i → spread f (drop i src) ≡ []
   none_left src i h = ap (spread f) (drop_of_length-le src h)
@@ -40,31 +40,31 @@ pub record Spreading (f : ℕ → List ℕ) (l : List ℕ) (at : ℕ) (src out :
   pub next : at + length (spread f src) ≡ k + length (spread f (drop i src))
   pub left : sets l at (spread f src) ≡ sets out k (spread f (drop i src))
 
-pub spreading-first : (f : ℕ → List ℕ) (l : List ℕ) (at : ℕ) (src : List ℕ) → Spreading f l at src l 0 at
-spreading-first f l at src = record { most = omega arith; size = refl; next = refl; left = refl }
+pub spreading_first : (f : ℕ → List ℕ) (l : List ℕ) (at : ℕ) (src : List ℕ) → Spreading f l at src l 0 at
+spreading_first f l at src = record { most = omega arith; size = refl; next = refl; left = refl }
 
 module _ {f : ℕ → List ℕ} {l : List ℕ} {at : ℕ} {src out : List ℕ} {i k : ℕ} (g : Spreading f l at src out i k) where
-  pub spreading-room : i < length src → at + length (spread f src) ≤ length l → k + length (f (get_or src i 0)) ≤ length out
-  spreading-room h r =
+  pub spreading_room : i < length src → at + length (spread f src) ≤ length l → k + length (f (get_or src i 0)) ≤ length out
+  spreading_room h r =
       let n = g.next in
       let z = g.size in
-      omega (arith, next-length f src i h)
+      omega (arith, next_length f src i h)
 
-  pub spreading-more : {n : ℕ} {out' : List ℕ} {k' : ℕ} → i < length src → Short n out k (f (get_or src i 0)) out' k' → Spreading f l at src out' (i + 1) k'
-  spreading-more {n} {out'} {k'} h s =
+  pub spreading_more : {n : ℕ} {out' : List ℕ} {k' : ℕ} → i < length src → Short n out k (f (get_or src i 0)) out' k' → Spreading f l at src out' (i + 1) k'
+  spreading_more {n} {out'} {k'} h s =
       let b : List ℕ = f (get_or src i 0) in
       let rest : List ℕ = spread f (drop (suc i) src) in
       let e : sets out k b ≡ out' = sets-eq b out k s.fits ∙ sym s.laid.list in
       let p : sets out k (spread f (drop i src)) ≡ sets out' k' rest
-      = ap (sets out k) (next-byte f src i h) ∙ sets-append b rest out k ∙ rw (e, ← s.laid.next) in
+      = ap (sets out k) (next_byte f src i h) ∙ sets_append b rest out k ∙ rw (e, ← s.laid.next) in
       let m = g.next in
       let z = g.size in
       let y = s.laid.next in
       let x = s.kept in
-      rw (add-one i) record { most = omega arith; size = omega arith; next = omega (arith, next-length f src i h); left = g.left ∙ p }
+      rw (add-one i) record { most = omega arith; size = omega arith; next = omega (arith, next_length f src i h); left = g.left ∙ p }
 
-  pub spreading-end : length src ≤ i → at + length (spread f src) ≤ length l → Short (length (spread f src)) l at (spread f src) out k
-  spreading-end h r =
+  pub spreading_end : length src ≤ i → at + length (spread f src) ≤ length l → Short (length (spread f src)) l at (spread f src) out k
+  spreading_end h r =
       let e : spread f (drop i src) ≡ [] = none_left f src i h in
       let z : length (spread f (drop i src)) ≡ 0 = ap length e in
       let q : sets out k (spread f (drop i src)) ≡ out = ap (sets out k) e in
@@ -81,24 +81,24 @@ pub record Fitting (f : ℕ → List ℕ) (src : List ℕ) (room left i : ℕ) :
   pub most : i ≤ length src
   pub sum : length (spread f src) + left ≡ length (spread f (drop i src)) + room
 
-pub fitting-first : (f : ℕ → List ℕ) (src : List ℕ) (room : ℕ) → Fitting f src room room 0
-fitting-first f src room = record { most = omega arith; sum = refl }
+pub fitting_first : (f : ℕ → List ℕ) (src : List ℕ) (room : ℕ) → Fitting f src room room 0
+fitting_first f src room = record { most = omega arith; sum = refl }
 
 module _ {f : ℕ → List ℕ} {src : List ℕ} {room left i : ℕ} (g : Fitting f src room left i) where
-  pub fitting-more : {m n : ℕ} → i < length src → Sized (f (get_or src i 0)) m n → n ≤ left → Fitting f src room (left - n) (i + 1)
-  fitting-more {m} {n} h s q =
+  pub fitting_more : {m n : ℕ} → i < length src → Sized (f (get_or src i 0)) m n → n ≤ left → Fitting f src room (left - n) (i + 1)
+  fitting_more {m} {n} h s q =
       let u = g.sum in
       let w = s.is in
-      rw (add-one i) record { most = omega arith; sum = omega (arith, next-length f src i h) }
+      rw (add-one i) record { most = omega arith; sum = omega (arith, next_length f src i h) }
 
-  pub fitting-none : {m n : ℕ} → i < length src → Sized (f (get_or src i 0)) m n → left < n → false ≡ leb (length (spread f src)) room
-  fitting-none {m} {n} h s q =
+  pub fitting_none : {m n : ℕ} → i < length src → Sized (f (get_or src i 0)) m n → left < n → false ≡ leb (length (spread f src)) room
+  fitting_none {m} {n} h s q =
       let u = g.sum in
       let w = s.is in
-      sym (lt-leb (length (spread f src)) room (omega (arith, next-length f src i h)))
+      sym (lt-leb (length (spread f src)) room (omega (arith, next_length f src i h)))
 
-  pub fitting-end : length src ≤ i → true ≡ leb (length (spread f src)) room
-  fitting-end h =
+  pub fitting_end : length src ≤ i → true ≡ leb (length (spread f src)) room
+  fitting_end h =
       let u = g.sum in
       let z : length (spread f (drop i src)) ≡ 0 = ap length (none_left f src i h) in
       sym (le-leb (length (spread f src)) room (omega arith))
@@ -108,5 +108,5 @@ pub pairs-length : (bs : List ℕ) → length (spread (fixed_of 16 2) bs) ≡ 2 
 pairs-length [] = refl
 pairs-length (b ∷ bs) =
     let r = pairs-length bs in
-    let d = fixed-length 16 2 b in
+    let d = fixed_length 16 2 b in
     length-append (fixed_of 16 2 b) (spread (fixed_of 16 2) bs) ∙ omega arith

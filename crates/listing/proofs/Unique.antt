@@ -13,29 +13,29 @@ use Rattle.listing.specs.declared.field.Cursor.{Cursor}
 use Rattle.tape.specs.declared.microphone.Microphone.{Microphone}
 use Rattle.listing.specs.Field.{Text}
 
-pub frame-unique : (κs : _) (a : _) (r r' : _) (x x' : _) → frame.Post κs a r x → frame.Post κs a r' x' → (r ≡ r') × (x.0.now ≡ x'.0.now)
-frame-unique κs a r r' x x' p q = (p.answer ∙ sym q.answer, p.list ∙ sym q.list)
+pub frame_unique : (κs : _) (a : _) (r r' : _) (x x' : _) → frame.Post κs a r x → frame.Post κs a r' x' → (r ≡ r') × (x.0.now ≡ x'.0.now)
+frame_unique κs a r r' x x' p q = (p.answer ∙ sym q.answer, p.list ∙ sym q.list)
 
-pub item-unique : (κs : _) (a : _) (r r' : _) (x x' : _) → item.Post κs a r x → item.Post κs a r' x' → (r ≡ r') × (x.0.now ≡ x'.0.now)
-item-unique κs a r r' x x' p q = (p.answer ∙ sym q.answer, p.list ∙ sym q.list)
+pub item_unique : (κs : _) (a : _) (r r' : _) (x x' : _) → item.Post κs a r x → item.Post κs a r' x' → (r ≡ r') × (x.0.now ≡ x'.0.now)
+item_unique κs a r r' x x' p q = (p.answer ∙ sym q.answer, p.list ∙ sym q.list)
 
-pub note-unique : (κs : _) (a : _) (r r' : _) (x x' : _) → note.Post κs a r x → note.Post κs a r' x' → (r ≡ r') × (x.0.now ≡ x'.0.now)
-note-unique κs a r r' x x' p q = (p.answer ∙ sym q.answer, p.list ∙ sym q.list)
+pub note_unique : (κs : _) (a : _) (r r' : _) (x x' : _) → note.Post κs a r x → note.Post κs a r' x' → (r ≡ r') × (x.0.now ≡ x'.0.now)
+note_unique κs a r r' x x' p q = (p.answer ∙ sym q.answer, p.list ∙ sym q.list)
 
-pub start-unique : (κs : _) (a : _) (r r' : _) (x x' : _) → start.Post κs a r x → start.Post κs a r' x' → (r ≡ r') × (x.0.now ≡ x'.0.now)
-start-unique κs a r r' x x' p q = (p.answer ∙ sym q.answer, p.list ∙ sym q.list)
+pub start_unique : (κs : _) (a : _) (r r' : _) (x x' : _) → start.Post κs a r x → start.Post κs a r' x' → (r ≡ r') × (x.0.now ≡ x'.0.now)
+start_unique κs a r r' x x' p q = (p.answer ∙ sym q.answer, p.list ∙ sym q.list)
 
-pub refused-unique : (κs : _) (a : _) (r r' : _) (x x' : _) → refused.Post κs a r x → refused.Post κs a r' x' → (r ≡ r') × (x.0.now ≡ x'.0.now)
-refused-unique κs a r r' x x' p q = (p.answer ∙ sym q.answer, p.list ∙ sym q.list)
+pub refused_unique : (κs : _) (a : _) (r r' : _) (x x' : _) → refused.Post κs a r x → refused.Post κs a r' x' → (r ≡ r') × (x.0.now ≡ x'.0.now)
+refused_unique κs a r r' x x' p q = (p.answer ∙ sym q.answer, p.list ∙ sym q.list)
 
-pub skipped-unique : (κs : _) (a : _) (r r' : _) (x x' : _) → skipped.Post κs a r x → skipped.Post κs a r' x' → (r ≡ r') × (x.0.now ≡ x'.0.now)
-skipped-unique κs a r r' x x' p q = (p.answer ∙ sym q.answer, p.list ∙ sym q.list)
+pub skipped_unique : (κs : _) (a : _) (r r' : _) (x x' : _) → skipped.Post κs a r x → skipped.Post κs a r' x' → (r ≡ r') × (x.0.now ≡ x'.0.now)
+skipped_unique κs a r r' x x' p q = (p.answer ∙ sym q.answer, p.list ∙ sym q.list)
 
-pub end-unique : (κs : _) (a : _) (r r' : _) (x x' : _) → end.Post κs a r x → end.Post κs a r' x' → (r ≡ r') × (x.0.now ≡ x'.0.now)
-end-unique κs a r r' x x' p q = (p.answer ∙ sym q.answer, p.list ∙ sym q.list)
+pub end_unique : (κs : _) (a : _) (r r' : _) (x x' : _) → end.Post κs a r x → end.Post κs a r' x' → (r ≡ r') × (x.0.now ≡ x'.0.now)
+end_unique κs a r r' x x' p q = (p.answer ∙ sym q.answer, p.list ∙ sym q.list)
 
-pub lines-unique : (κs : _) (a : _) (r r' : _) (x x' : _) → lines.Post κs a r x → lines.Post κs a r' x' → (r ≡ r') × (x.0.now ≡ x'.0.now)
-lines-unique κs a r r' x x' p q =
+pub lines_unique : (κs : _) (a : _) (r r' : _) (x x' : _) → lines.Post κs a r x → lines.Post κs a r' x' → (r ≡ r') × (x.0.now ≡ x'.0.now)
+lines_unique κs a r r' x x' p q =
     let e = p.0 ∙ sym q.0 in
     (same (ap (λ (t : Text). t.at) e) (p.1 ∙ sym q.1), ap (λ (t : Text). t.bytes) e)
   where

@@ -2,7 +2,7 @@
 use Rattle.std.specs.Prelude.{ℕ, ◌+◌, List, [], ◌∷◌, ◌++◌, map, length, take}
 use Rattle.codec.specs.Choice.{pick}
 use Rattle.codec.specs.Number.{over, fits}
-use Rattle.codec.specs.Time.{recoveredOf}
+use Rattle.codec.specs.Time.{recovered_of}
 use Rattle.codec.specs.Layout.{Entry}
 use Rattle.codec.specs.declared.time.Time.{Time}
 use Rattle.codec.specs.declared.number.Put.{Put}
@@ -12,27 +12,27 @@ use Rattle.recording.specs.declared.field.Found.{Found}
 use Rattle.recording.specs.declared.field.Found.TheVariants as Found
 use Rattle.recording.specs.declared.field.Field.{Field}
 use Rattle.tape.specs.declared.microphone.Microphone.{Microphone}
-use Rattle.listing.specs.Line.{frameLine, itemLine, noteLine, startLine, refusedLine, skippedLine}
+use Rattle.listing.specs.Line.{frame_line, item_line, note_line, start_line, refused_line, skipped_line}
 
 -- an item of a frame with this header time
-abbrev pub entryLine : Microphone → Time → Entry → List ℕ
-entryLine m t e = itemLine m (recoveredOf t e.item.offset.0) e.item e.payload
+abbrev pub entry_line : Microphone → Time → Entry → List ℕ
+entry_line m t e = item_line m (recovered_of t e.item.offset.0) e.item e.payload
 
 -- the items of a frame from a place on, in order
-unfoldable pub itemLines : Microphone → Time → List ℕ → ℕ → List (List ℕ)
-itemLines m t s at = map (entryLine m t) (items_of s at)
+unfoldable pub item_lines : Microphone → Time → List ℕ → ℕ → List (List ℕ)
+item_lines m t s at = map (entry_line m t) (items_of s at)
 
 -- the header's line and then the items'; of everything else one line
-abbrev pub foundLines : Microphone → ℕ → ℕ → Found → List ℕ → List (List ℕ)
-foundLines m tag n (Found.Frame h) body = frameLine h ∷ itemLines m h.time body 14
-foundLines m tag n Found.Note body = noteLine body ∷ []
-foundLines m tag n (Found.Start t) body = startLine t ∷ []
-foundLines m tag n (Found.Refused answer) body = refusedLine tag answer ∷ []
-foundLines m tag n Found.Skipped body = skippedLine tag n ∷ []
+abbrev pub found_lines : Microphone → ℕ → ℕ → Found → List ℕ → List (List ℕ)
+found_lines m tag n (Found.Frame h) body = frame_line h ∷ item_lines m h.time body 14
+found_lines m tag n Found.Note body = note_line body ∷ []
+found_lines m tag n (Found.Start t) body = start_line t ∷ []
+found_lines m tag n (Found.Refused answer) body = refused_line tag answer ∷ []
+found_lines m tag n Found.Skipped body = skipped_line tag n ∷ []
 
 -- the body is the front of the buffer
-abbrev pub fieldLines : Microphone → Field → List ℕ → List (List ℕ)
-fieldLines m f buffer = foundLines m f.tag f.length f.found (take f.length buffer)
+abbrev pub field_lines : Microphone → Field → List ℕ → List (List ℕ)
+field_lines m f buffer = found_lines m f.tag f.length f.found (take f.length buffer)
 
 -- an output, and where writing goes on in it
 pub record Text : Type 0 where
@@ -43,9 +43,9 @@ pub record Text : Type 0 where
 unfoldable pub with : Text → List ℕ → Text
 with t line = pick (fits t.bytes t.at (length line)) (record { bytes = over t.bytes t.at line; at = t.at + length line }) t
 
-abbrev pub withAll : Text → List (List ℕ) → Text
-withAll t [] = t
-withAll t (line ∷ lines) = withAll (with t line) lines
+abbrev pub with_all : Text → List (List ℕ) → Text
+with_all t [] = t
+with_all t (line ∷ lines) = with_all (with t line) lines
 
 abbrev pub past_of : Put → ℕ → ℕ
 past_of (Put.Next end) at = end

@@ -1,11 +1,11 @@
 // A fixed number of digits, upper-case. Without its leading zeros a fraction of a second would be another one.
 ghost use Rattle.std.specs.Prelude.{◌≡◌, ◌+◌, ◌*◌, ◌<◌, ◌≤◌, length};
 ghost use Rattle.text.specs.Short.{Short};
-ghost use Rattle.listing.specs.Line.{capitalOf, fixed_of, spread};
+ghost use Rattle.listing.specs.Line.{capital_of, fixed_of, spread};
 
 fn capital(v: u64) -> u8
     requires { v < 16 }
-    ensures { result ≡ capitalOf v }
+    ensures { result ≡ capital_of v }
 {
     if v < 10 {
         (v + 48) as u8

@@ -2,7 +2,7 @@
 ghost use Rattle.std.specs.Prelude.{◌≡◌, true, ◌+◌, ◌≤◌, length};
 ghost use Rattle.codec.specs.Number.{Wrote, Sized};
 ghost use Rattle.text.specs.Short.{Short};
-ghost use Rattle.listing.specs.Line.{plain, escapeOf, spread, noteFits, noteLine};
+ghost use Rattle.listing.specs.Line.{plain, escape_of, spread, note_fits, note_line};
 
 use codec::number::Put;
 
@@ -14,14 +14,14 @@ fn plain(b: u8) -> bool
 }
 
 fn width(b: u8) -> usize
-    ensures { Sized (escapeOf b) 4 result }
+    ensures { Sized (escape_of b) 4 result }
 {
     if plain(b) { 1 } else { 4 }
 }
 
 fn lay_byte(out: &mut [u8], at: usize, b: u8) -> usize
-    requires { at + length (escapeOf b) ≤ length out.old }
-    ensures { Short 4 out.old at (escapeOf b) out.new result }
+    requires { at + length (escape_of b) ≤ length out.old }
+    ensures { Short 4 out.old at (escape_of b) out.new result }
 {
     let one = [b];
     if plain(b) {
@@ -35,7 +35,7 @@ fn lay_byte(out: &mut [u8], at: usize, b: u8) -> usize
 
 // The escaped text fits so many places. Taken from them byte by byte: the sum itself may be too large to hold.
 fn fits(src: &[u8], room: usize) -> bool
-    ensures { result ≡ noteFits src.now room }
+    ensures { result ≡ note_fits src.now room }
 {
     let mut left = room;
     let mut i = 0;
@@ -51,8 +51,8 @@ fn fits(src: &[u8], room: usize) -> bool
 }
 
 fn lay_bytes(out: &mut [u8], at: usize, src: &[u8]) -> usize
-    requires { at + length (spread escapeOf src.now) ≤ length out.old }
-    ensures { Short (length (spread escapeOf src.now)) out.old at (spread escapeOf src.now) out.new result }
+    requires { at + length (spread escape_of src.now) ≤ length out.old }
+    ensures { Short (length (spread escape_of src.now)) out.old at (spread escape_of src.now) out.new result }
 {
     let mut i = 0;
     let mut k = at;
@@ -64,7 +64,7 @@ fn lay_bytes(out: &mut [u8], at: usize, src: &[u8]) -> usize
 }
 
 pub fn note(out: &mut [u8], at: usize, text: &[u8]) -> Put
-    ensures { Wrote true out.old at (noteLine text.now) out.new result }
+    ensures { Wrote true out.old at (note_line text.now) out.new result }
 {
     // The name, its space and the line feed are six.
     let most = out.len();

@@ -2,8 +2,8 @@
 // line left out; who lends 65,536 bytes past `at` loses none (proofs/RoomLaws.antt).
 ghost use Rattle.std.specs.Prelude.{◌≡◌, ◌∷◌};
 ghost use Rattle.tape.specs.Start.{after_of};
-ghost use Rattle.listing.specs.Line.{frameLine};
-ghost use Rattle.listing.specs.Field.{itemLines, fieldLines, withAll, past_of};
+ghost use Rattle.listing.specs.Line.{frame_line};
+ghost use Rattle.listing.specs.Field.{item_lines, field_lines, with_all, past_of};
 
 use codec::field::ItemRead;
 use codec::header::Header;
@@ -31,7 +31,7 @@ fn past(put: Put, at: usize) -> usize
 
 // A line for each item, from the first on, dated from the header time.
 fn items(frame: &[u8], microphone: Microphone, header: Time, out: &mut [u8], from: usize) -> usize
-    ensures { record { bytes = out.new; at = result } ≡ withAll (record { bytes = out.old; at = from }) (itemLines microphone header frame.now 14) }
+    ensures { record { bytes = out.new; at = result } ≡ with_all (record { bytes = out.old; at = from }) (item_lines microphone header frame.now 14) }
 {
     let mut at = from;
     let mut place = 14;
@@ -58,7 +58,7 @@ fn items(frame: &[u8], microphone: Microphone, header: Time, out: &mut [u8], fro
 }
 
 fn frame(header: Header, microphone: Microphone, body: &[u8], out: &mut [u8], at: usize) -> usize
-    ensures { record { bytes = out.new; at = result } ≡ withAll (record { bytes = out.old; at = at }) (frameLine header ∷ itemLines microphone header.time body.now 14) }
+    ensures { record { bytes = out.new; at = result } ≡ with_all (record { bytes = out.old; at = at }) (frame_line header ∷ item_lines microphone header.time body.now 14) }
 {
     let first = past(crate::line::frame(out, at, header), at);
     let time = header.time;
@@ -66,7 +66,7 @@ fn frame(header: Header, microphone: Microphone, body: &[u8], out: &mut [u8], at
 }
 
 fn laid(out: &mut [u8], at: usize, microphone: Microphone, field: Field, buffer: &[u8]) -> usize
-    ensures { record { bytes = out.new; at = result } ≡ withAll (record { bytes = out.old; at = at }) (fieldLines microphone field buffer.now) }
+    ensures { record { bytes = out.new; at = result } ≡ with_all (record { bytes = out.old; at = at }) (field_lines microphone field buffer.now) }
 {
     let body = text::part::front(buffer, field.length as usize);
     let tag = field.tag;
@@ -82,7 +82,7 @@ fn laid(out: &mut [u8], at: usize, microphone: Microphone, field: Field, buffer:
 }
 
 pub fn lines(out: &mut [u8], cursor: Cursor, field: Field, buffer: &[u8]) -> Cursor
-    ensures at_after { record { bytes = out.new; at = result.at } ≡ withAll (record { bytes = out.old; at = cursor.at }) (fieldLines cursor.microphone field buffer.now) }
+    ensures at_after { record { bytes = out.new; at = result.at } ≡ with_all (record { bytes = out.old; at = cursor.at }) (field_lines cursor.microphone field buffer.now) }
     ensures microphone_value { result.microphone ≡ after_of cursor.microphone field.found }
 {
     let microphone = cursor.microphone;

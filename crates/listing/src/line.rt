@@ -4,7 +4,7 @@ ghost use Rattle.std.specs.Prelude.{◌≡◌, true, ◌∷◌, [], ◌++◌, �
 ghost use Rattle.codec.specs.Choice.{pick};
 ghost use Rattle.codec.specs.Number.{Wrote};
 ghost use Rattle.text.specs.Short.{Short};
-ghost use Rattle.listing.specs.Line.{fixed_of, spread, placeText, shownText, frontText, frameLine, itemLine, startLine, pairLine, refusedLine, skippedLine, endLine};
+ghost use Rattle.listing.specs.Line.{fixed_of, spread, place_text, shown_text, front_text, frame_line, item_line, start_line, pair_line, refused_line, skipped_line, end_line};
 
 use codec::header::Header;
 use codec::item::Item;
@@ -14,7 +14,7 @@ use tape::Microphone;
 
 fn lay_frame(out: &mut [u8], h: Header) -> usize
     requires { 256 ≤ length out.old }
-    ensures { Short 256 out.old 0 (frameLine h) out.new result }
+    ensures { Short 256 out.old 0 (frame_line h) out.new result }
 {
     let t = h.time;
     let a = crate::word::lay(out, 0, b"frame");
@@ -25,7 +25,7 @@ fn lay_frame(out: &mut [u8], h: Header) -> usize
 }
 
 pub fn frame(out: &mut [u8], at: usize, h: Header) -> Put
-    ensures { Wrote true out.old at (frameLine h) out.new result }
+    ensures { Wrote true out.old at (frame_line h) out.new result }
 {
     let mut text = [0u8; 256];
     let n = lay_frame(&mut text, h);
@@ -34,7 +34,7 @@ pub fn frame(out: &mut [u8], at: usize, h: Header) -> Put
 
 fn lay_start(out: &mut [u8], t: Time) -> usize
     requires { 256 ≤ length out.old }
-    ensures { Short 256 out.old 0 (startLine t) out.new result }
+    ensures { Short 256 out.old 0 (start_line t) out.new result }
 {
     let a = crate::word::lay(out, 0, b"start");
     let b = crate::word::time(out, a, t);
@@ -42,7 +42,7 @@ fn lay_start(out: &mut [u8], t: Time) -> usize
 }
 
 pub fn start(out: &mut [u8], at: usize, t: Time) -> Put
-    ensures { Wrote true out.old at (startLine t) out.new result }
+    ensures { Wrote true out.old at (start_line t) out.new result }
 {
     let mut text = [0u8; 256];
     let n = lay_start(&mut text, t);
@@ -52,7 +52,7 @@ pub fn start(out: &mut [u8], at: usize, t: Time) -> Put
 fn lay_pair(out: &mut [u8], name: &[u8], a: u64, b: u64) -> usize
     requires name_len_bound { length name.now ≤ 8 }
     requires in_bounds { 256 ≤ length out.old }
-    ensures { Short 256 out.old 0 (pairLine name.now a b) out.new result }
+    ensures { Short 256 out.old 0 (pair_line name.now a b) out.new result }
 {
     let d = crate::word::lay(out, 0, name);
     let e = crate::word::field(out, d, a);
@@ -63,7 +63,7 @@ fn lay_pair(out: &mut [u8], name: &[u8], a: u64, b: u64) -> usize
 // A name and two numbers.
 fn pair(out: &mut [u8], at: usize, name: &[u8], a: u64, b: u64) -> Put
     requires { length name.now ≤ 8 }
-    ensures { Wrote true out.old at (pairLine name.now a b) out.new result }
+    ensures { Wrote true out.old at (pair_line name.now a b) out.new result }
 {
     let mut text = [0u8; 256];
     let n = lay_pair(&mut text, name, a, b);
@@ -71,26 +71,26 @@ fn pair(out: &mut [u8], at: usize, name: &[u8], a: u64, b: u64) -> Put
 }
 
 pub fn refused(out: &mut [u8], at: usize, tag: u8, answer: u8) -> Put
-    ensures { Wrote true out.old at (refusedLine tag answer) out.new result }
+    ensures { Wrote true out.old at (refused_line tag answer) out.new result }
 {
     pair(out, at, b"refused", tag as u64, answer as u64)
 }
 
 pub fn skipped(out: &mut [u8], at: usize, tag: u8, length: u16) -> Put
-    ensures { Wrote true out.old at (skippedLine tag length) out.new result }
+    ensures { Wrote true out.old at (skipped_line tag length) out.new result }
 {
     pair(out, at, b"skipped", tag as u64, length as u64)
 }
 
 pub fn end(out: &mut [u8], at: usize, answer: u8, skipped: u32) -> Put
-    ensures { Wrote true out.old at (endLine answer skipped) out.new result }
+    ensures { Wrote true out.old at (end_line answer skipped) out.new result }
 {
     pair(out, at, b"end", answer as u64, skipped as u64)
 }
 
 fn lay_place(out: &mut [u8], microphone: Microphone, t: Time, it: Item) -> usize
     requires { 256 ≤ length out.old }
-    ensures { Short 85 out.old 0 (placeText microphone t it) out.new result }
+    ensures { Short 85 out.old 0 (place_text microphone t it) out.new result }
 {
     let id = it.ident;
     let a = crate::word::lay(out, 0, b" ");
@@ -102,7 +102,7 @@ fn lay_place(out: &mut [u8], microphone: Microphone, t: Time, it: Item) -> usize
 
 fn lay_shown(out: &mut [u8], at: usize, it: Item, n: usize) -> usize
     requires { at + 76 ≤ length out.old }
-    ensures { Short 76 out.old at (shownText it n) out.new result }
+    ensures { Short 76 out.old at (shown_text it n) out.new result }
 {
     let shown = it.state;
     let id = it.ident;
@@ -115,7 +115,7 @@ fn lay_shown(out: &mut [u8], at: usize, it: Item, n: usize) -> usize
 // What stands before an item's bytes.
 fn lay_front(out: &mut [u8], microphone: Microphone, t: Time, it: Item, n: usize) -> usize
     requires { 256 ≤ length out.old }
-    ensures { Short 161 out.old 0 (frontText microphone t it n) out.new result }
+    ensures { Short 161 out.old 0 (front_text microphone t it n) out.new result }
 {
     let a = lay_place(out, microphone, t, it);
     lay_shown(out, a, it, n)
@@ -157,7 +157,7 @@ pub fn item(
     it: Item,
     payload: &[u8],
 ) -> Put
-    ensures { Wrote true out.old at (itemLine microphone time it payload.now) out.new result }
+    ensures { Wrote true out.old at (item_line microphone time it payload.now) out.new result }
 {
     let mut text = [0u8; 256];
     let n = lay_front(&mut text, microphone, time, it, payload.len());

@@ -2,9 +2,9 @@
 ghost use Rattle.std.specs.Prelude.{◌≡◌, [], ◌+◌, ◌%◌, ◌^◌, ◌≤◌, length, nat_abs};
 ghost use Rattle.codec.specs.Choice.{pick};
 ghost use Rattle.codec.specs.Number.{Below};
-ghost use Rattle.text.specs.Put.{decimalOf};
+ghost use Rattle.text.specs.Put.{decimal_of};
 ghost use Rattle.text.specs.Short.{Short};
-ghost use Rattle.listing.specs.Line.{fieldText, hexText, timeText, signText, signedText, placedText, positionText, kindText, isFd, busText, idDigits, canText, channelsText, flexrayText, errorText, identText, stateText, loadText};
+ghost use Rattle.listing.specs.Line.{field_text, hex_text, time_text, sign_text, signed_text, placed_text, position_text, kind_text, is_fd, bus_text, id_digits, can_text, channels_text, flexray_text, error_text, ident_text, state_text, load_text};
 
 use codec::ident::{Ident, Kind};
 use codec::item::State;
@@ -22,7 +22,7 @@ pub(crate) fn lay(out: &mut [u8], at: usize, s: &[u8]) -> usize
 
 fn number(out: &mut [u8], at: usize, v: u64) -> usize
     requires { at + 20 ≤ length out.old }
-    ensures { Short 20 out.old at (decimalOf v) out.new result }
+    ensures { Short 20 out.old at (decimal_of v) out.new result }
 {
     match text::put::decimal(out, at, v) {
         Put::Next(next) => next,
@@ -32,7 +32,7 @@ fn number(out: &mut [u8], at: usize, v: u64) -> usize
 
 pub(crate) fn field(out: &mut [u8], at: usize, v: u64) -> usize
     requires { at + 21 ≤ length out.old }
-    ensures { Short 21 out.old at (fieldText v) out.new result }
+    ensures { Short 21 out.old at (field_text v) out.new result }
 {
     let start = lay(out, at, b" ");
     number(out, start, v)
@@ -41,7 +41,7 @@ pub(crate) fn field(out: &mut [u8], at: usize, v: u64) -> usize
 fn hex(out: &mut [u8], at: usize, n: usize, v: u64) -> usize
     requires n_bound { n ≤ 8 }
     requires at_in_bounds { at + 9 ≤ length out.old }
-    ensures { Short 9 out.old at (hexText n v) out.new result }
+    ensures { Short 9 out.old at (hex_text n v) out.new result }
 {
     let start = lay(out, at, b" ");
     crate::digit::fixed(out, start, 16, n, v)
@@ -49,7 +49,7 @@ fn hex(out: &mut [u8], at: usize, n: usize, v: u64) -> usize
 
 pub(crate) fn time(out: &mut [u8], at: usize, t: Time) -> usize
     requires { at + 31 ≤ length out.old }
-    ensures { Short 31 out.old at (timeText t) out.new result }
+    ensures { Short 31 out.old at (time_text t) out.new result }
 {
     let a = field(out, at, t.sec);
     let b = lay(out, a, b".");
@@ -65,7 +65,7 @@ fn magnitude(n: i64) -> u64
 
 fn sign(out: &mut [u8], at: usize, n: i64) -> usize
     requires { at + 2 ≤ length out.old }
-    ensures { Short 2 out.old at (signText n) out.new result }
+    ensures { Short 2 out.old at (sign_text n) out.new result }
 {
     if n < 0 {
         return lay(out, at, b" -");
@@ -75,7 +75,7 @@ fn sign(out: &mut [u8], at: usize, n: i64) -> usize
 
 fn signed(out: &mut [u8], at: usize, n: i64) -> usize
     requires { at + 22 ≤ length out.old }
-    ensures { Short 22 out.old at (signedText n) out.new result }
+    ensures { Short 22 out.old at (signed_text n) out.new result }
 {
     let start = sign(out, at, n);
     number(out, start, magnitude(n))
@@ -83,7 +83,7 @@ fn signed(out: &mut [u8], at: usize, n: i64) -> usize
 
 fn placed(out: &mut [u8], at: usize, p: Placed) -> usize
     requires { at + 22 ≤ length out.old }
-    ensures { Short 22 out.old at (placedText p) out.new result }
+    ensures { Short 22 out.old at (placed_text p) out.new result }
 {
     match p {
         Placed::Sample(n) => signed(out, at, n),
@@ -93,7 +93,7 @@ fn placed(out: &mut [u8], at: usize, p: Placed) -> usize
 
 pub(crate) fn position(out: &mut [u8], at: usize, microphone: Microphone, t: Time) -> usize
     requires { at + 22 ≤ length out.old }
-    ensures { Short 22 out.old at (positionText microphone t) out.new result }
+    ensures { Short 22 out.old at (position_text microphone t) out.new result }
 {
     match microphone {
         Microphone::Silent => lay(out, at, b" -"),
@@ -111,7 +111,7 @@ fn shown(out: &mut [u8], at: usize, yes: bool, s: &[u8]) -> usize
 
 fn kind(out: &mut [u8], at: usize, k: Kind) -> usize
     requires { at + 8 ≤ length out.old }
-    ensures { Short 8 out.old at (kindText k) out.new result }
+    ensures { Short 8 out.old at (kind_text k) out.new result }
 {
     match k {
         Kind::Can => lay(out, at, b" CAN"),
@@ -122,7 +122,7 @@ fn kind(out: &mut [u8], at: usize, k: Kind) -> usize
 
 // Only an id tells CAN FD from CAN.
 fn is_fd(id: Ident) -> bool
-    ensures { result ≡ isFd id }
+    ensures { result ≡ is_fd id }
 {
     match id {
         Ident::Can(key) => codec::ident::can_fd(key),
@@ -139,7 +139,7 @@ fn is_fd(id: Ident) -> bool
 
 pub(crate) fn bus(out: &mut [u8], at: usize, id: Ident) -> usize
     requires { at + 10 ≤ length out.old }
-    ensures { Short 10 out.old at (busText id) out.new result }
+    ensures { Short 10 out.old at (bus_text id) out.new result }
 {
     let a = kind(out, at, codec::ident::kind_of(id));
     shown(out, a, is_fd(id), b"FD")
@@ -147,7 +147,7 @@ pub(crate) fn bus(out: &mut [u8], at: usize, id: Ident) -> usize
 
 // Bit 31 of a CAN key: an extended id.
 fn id_digits(key: u32) -> usize
-    ensures { Below (idDigits key) 9 result }
+    ensures { Below (id_digits key) 9 result }
 {
     if key >> 31 == 1 { 8 } else { 3 }
 }
@@ -161,14 +161,14 @@ fn can_id(key: u32) -> u32
 
 fn can(out: &mut [u8], at: usize, key: u32) -> usize
     requires { at + 9 ≤ length out.old }
-    ensures { Short 9 out.old at (canText key) out.new result }
+    ensures { Short 9 out.old at (can_text key) out.new result }
 {
     hex(out, at, id_digits(key), can_id(key) as u64)
 }
 
 fn channels(out: &mut [u8], at: usize, c: u8) -> usize
     requires { at + 3 ≤ length out.old }
-    ensures { Short 3 out.old at (channelsText c) out.new result }
+    ensures { Short 3 out.old at (channels_text c) out.new result }
 {
     let start = lay(out, at, b" ");
     let a = shown(out, start, c % 2 == 1, b"A");
@@ -177,7 +177,7 @@ fn channels(out: &mut [u8], at: usize, c: u8) -> usize
 
 fn flexray(out: &mut [u8], at: usize, c: u8, slot: u16, cycle: u8) -> usize
     requires { at + 45 ≤ length out.old }
-    ensures { Short 45 out.old at (flexrayText c slot cycle) out.new result }
+    ensures { Short 45 out.old at (flexray_text c slot cycle) out.new result }
 {
     let a = channels(out, at, c);
     let b = lay(out, a, b":");
@@ -188,7 +188,7 @@ fn flexray(out: &mut [u8], at: usize, c: u8, slot: u16, cycle: u8) -> usize
 
 fn error(out: &mut [u8], at: usize, c: u8) -> usize
     requires { at + 7 ≤ length out.old }
-    ensures { Short 7 out.old at (errorText c) out.new result }
+    ensures { Short 7 out.old at (error_text c) out.new result }
 {
     let a = channels(out, at, c);
     lay(out, a, b":-:-")
@@ -196,7 +196,7 @@ fn error(out: &mut [u8], at: usize, c: u8) -> usize
 
 pub(crate) fn ident(out: &mut [u8], at: usize, id: Ident) -> usize
     requires { at + 45 ≤ length out.old }
-    ensures { Short 45 out.old at (identText id) out.new result }
+    ensures { Short 45 out.old at (ident_text id) out.new result }
 {
     match id {
         Ident::Can(key) => can(out, at, key),
@@ -213,7 +213,7 @@ pub(crate) fn ident(out: &mut [u8], at: usize, id: Ident) -> usize
 
 pub(crate) fn state(out: &mut [u8], at: usize, s: State) -> usize
     requires { at + 9 ≤ length out.old }
-    ensures { Short 9 out.old at (stateText s) out.new result }
+    ensures { Short 9 out.old at (state_text s) out.new result }
 {
     match s {
         State::Byte(b) => hex(out, at, 2, b as u64),
@@ -223,7 +223,7 @@ pub(crate) fn state(out: &mut [u8], at: usize, s: State) -> usize
 
 pub(crate) fn load(out: &mut [u8], at: usize, carries: bool, n: usize) -> usize
     requires { at + 21 ≤ length out.old }
-    ensures { Short 21 out.old at (loadText carries n) out.new result }
+    ensures { Short 21 out.old at (load_text carries n) out.new result }
 {
     if carries {
         field(out, at, n as u64)

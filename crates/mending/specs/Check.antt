@@ -1,8 +1,8 @@
 -- The lines of a checker (docs/SCRIPT.md, "The check"). Numbers below are the characters of the names, 32 a space and 10 a line feed.
 use Rattle.std.specs.Prelude.{ℕ, ◌+◌, min, Bool, not, List, [], ◌∷◌, ◌++◌, length, eqb}
 use Rattle.codec.specs.Choice.{pick, bit}
-use Rattle.text.specs.Put.{decimalOf}
-use Rattle.recording.specs.File.{Finding, left_of, findingsOf, skips}
+use Rattle.text.specs.Put.{decimal_of}
+use Rattle.recording.specs.File.{Finding, left_of, findings_of, skips}
 use Rattle.recording.specs.Trip.{good}
 use Rattle.recording.specs.declared.field.Found.{Found}
 use Rattle.recording.specs.declared.field.Found.TheVariants as Found
@@ -10,49 +10,49 @@ use Rattle.mending.specs.Copy.{stays}
 use Rattle.mending.specs.declared.check.Tally.{Tally}
 
 -- a number behind a space
-unfoldable pub numberText : ℕ → List ℕ
-numberText v = 32 ∷ decimalOf v
+unfoldable pub number_text : ℕ → List ℕ
+number_text v = 32 ∷ decimal_of v
 
 -- a name and two numbers, a name and three
-unfoldable pub twoText : List ℕ → ℕ → ℕ → List ℕ
-twoText name a b = name ++ numberText a ++ numberText b
+unfoldable pub two_text : List ℕ → ℕ → ℕ → List ℕ
+two_text name a b = name ++ number_text a ++ number_text b
 
-unfoldable pub pairLine : List ℕ → ℕ → ℕ → List ℕ
-pairLine name a b = twoText name a b ++ (10 ∷ [])
+unfoldable pub pair_line : List ℕ → ℕ → ℕ → List ℕ
+pair_line name a b = two_text name a b ++ (10 ∷ [])
 
-unfoldable pub tripleLine : List ℕ → ℕ → ℕ → ℕ → List ℕ
-tripleLine name a b c = twoText name a b ++ numberText c ++ (10 ∷ [])
+unfoldable pub triple_line : List ℕ → ℕ → ℕ → ℕ → List ℕ
+triple_line name a b c = two_text name a b ++ number_text c ++ (10 ∷ [])
 
 -- "good TAG LENGTH"
-abbrev pub goodLine : ℕ → ℕ → List ℕ
-goodLine tag n = pairLine (103 ∷ 111 ∷ 111 ∷ 100 ∷ []) tag n
+abbrev pub good_line : ℕ → ℕ → List ℕ
+good_line tag n = pair_line (103 ∷ 111 ∷ 111 ∷ 100 ∷ []) tag n
 
 -- "bad TAG ANSWER LENGTH"
-abbrev pub badLine : ℕ → ℕ → ℕ → List ℕ
-badLine tag answer n = tripleLine (98 ∷ 97 ∷ 100 ∷ []) tag answer n
+abbrev pub bad_line : ℕ → ℕ → ℕ → List ℕ
+bad_line tag answer n = triple_line (98 ∷ 97 ∷ 100 ∷ []) tag answer n
 
 -- "unknown TAG LENGTH"
-abbrev pub unknownLine : ℕ → ℕ → List ℕ
-unknownLine tag n = pairLine (117 ∷ 110 ∷ 107 ∷ 110 ∷ 111 ∷ 119 ∷ 110 ∷ []) tag n
+abbrev pub unknown_line : ℕ → ℕ → List ℕ
+unknown_line tag n = pair_line (117 ∷ 110 ∷ 107 ∷ 110 ∷ 111 ∷ 119 ∷ 110 ∷ []) tag n
 
 -- of a field, by what it is found to be
-abbrev pub foundLine : ℕ → ℕ → Found → List ℕ
-foundLine tag n (Found.Frame h) = goodLine tag n
-foundLine tag n Found.Note = goodLine tag n
-foundLine tag n (Found.Start t) = goodLine tag n
-foundLine tag n (Found.Refused answer) = badLine tag answer n
-foundLine tag n Found.Skipped = unknownLine tag n
+abbrev pub found_line : ℕ → ℕ → Found → List ℕ
+found_line tag n (Found.Frame h) = good_line tag n
+found_line tag n Found.Note = good_line tag n
+found_line tag n (Found.Start t) = good_line tag n
+found_line tag n (Found.Refused answer) = bad_line tag answer n
+found_line tag n Found.Skipped = unknown_line tag n
 
-abbrev pub findingLine : Finding → List ℕ
-findingLine f = foundLine f.tag f.size f.found
+abbrev pub finding_line : Finding → List ℕ
+finding_line f = found_line f.tag f.size f.found
 
 -- "rest 40 BYTES", of the bytes that are left after the complete fields; no line where there are none
-unfoldable pub restText : ℕ → List ℕ
-restText n = pick (eqb n 0) [] (pairLine (114 ∷ 101 ∷ 115 ∷ 116 ∷ []) 40 n)
+unfoldable pub rest_text : ℕ → List ℕ
+rest_text n = pick (eqb n 0) [] (pair_line (114 ∷ 101 ∷ 115 ∷ 116 ∷ []) 40 n)
 
 -- "fields GOOD BAD UNKNOWN"
-abbrev pub fieldsLine : Tally → ℕ → List ℕ
-fieldsLine t unknown = tripleLine (102 ∷ 105 ∷ 101 ∷ 108 ∷ 100 ∷ 115 ∷ []) t.good t.bad unknown
+abbrev pub fields_line : Tally → ℕ → List ℕ
+fields_line t unknown = triple_line (102 ∷ 105 ∷ 101 ∷ 108 ∷ 100 ∷ 115 ∷ []) t.good t.bad unknown
 
 -- how many findings there are of a sort
 abbrev pub count_of : (Found → Bool) → List Finding → ℕ
@@ -74,9 +74,9 @@ abbrev pub tallied : Tally → Found → Tally
 tallied t found = record { good = min (t.good + bit (good found)) most; bad = min (t.bad + bit (bad found)) most }
 
 -- all that is written: a line for each field, then what is left, then how many there were
-abbrev pub reportOf : List Finding → ℕ → Tally → ℕ → List ℕ
-reportOf [] rest t unknown = restText rest ++ fieldsLine t unknown
-reportOf (f ∷ fs) rest t unknown = findingLine f ++ reportOf fs rest t unknown
+abbrev pub report_of : List Finding → ℕ → Tally → ℕ → List ℕ
+report_of [] rest t unknown = rest_text rest ++ fields_line t unknown
+report_of (f ∷ fs) rest t unknown = finding_line f ++ report_of fs rest t unknown
 
-unfoldable pub checkedOf : List ℕ → List ℕ
-checkedOf s = reportOf (findingsOf s) (length (left_of s)) (tally_of (findingsOf s)) (min (skips (findingsOf s)) most)
+unfoldable pub checked_of : List ℕ → List ℕ
+checked_of s = report_of (findings_of s) (length (left_of s)) (tally_of (findings_of s)) (min (skips (findings_of s)) most)

@@ -1,7 +1,7 @@
 -- The mended copy of a recording (docs/RULES.md, "Mending"): its good fields and its unknown ones, byte for byte and in order.
 use Rattle.std.specs.Prelude.{ℕ, ◌+◌, ◌≡◌, Bool, true, false, List, [], ◌∷◌, ◌++◌, length, take, drop}
 use Rattle.codec.specs.Choice.{pick}
-use Rattle.recording.specs.File.{Raw, Finding, fields_of, findingOf}
+use Rattle.recording.specs.File.{Raw, Finding, fields_of, finding_of}
 use Rattle.recording.specs.declared.field.Found.{Found}
 use Rattle.recording.specs.declared.field.Found.TheVariants as Found
 
@@ -18,17 +18,17 @@ abbrev pub span_of : Raw → ℕ
 span_of f = 3 + length f.body
 
 -- what the copy has of a field whose bytes are bs: all of them, or nothing
-abbrev pub keptBy : Raw → List ℕ → List ℕ
-keptBy f bs = pick (stays (findingOf f).found) bs []
+abbrev pub kept_by : Raw → List ℕ → List ℕ
+kept_by f bs = pick (stays (finding_of f).found) bs []
 
 -- along the fields at the front of s, the bytes of those that stay, as they stand there
-unfoldable pub alongKept : List Raw → List ℕ → List ℕ
-alongKept [] s = []
-alongKept (f ∷ fs) s = keptBy f (take (span_of f) s) ++ alongKept fs (drop (span_of f) s)
+unfoldable pub along_kept : List Raw → List ℕ → List ℕ
+along_kept [] s = []
+along_kept (f ∷ fs) s = kept_by f (take (span_of f) s) ++ along_kept fs (drop (span_of f) s)
 
 -- the copy; what is left after the complete fields is dropped
 unfoldable pub copy_of : List ℕ → List ℕ
-copy_of s = alongKept (fields_of s) s
+copy_of s = along_kept (fields_of s) s
 
 -- those of the findings that stay
 abbrev pub stayed : List Finding → List Finding

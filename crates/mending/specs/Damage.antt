@@ -1,12 +1,12 @@
 -- What a bad disk does to a recording whose lengths it spares (docs/RULES.md, "Mending").
 use Rattle.std.specs.Prelude.{ℕ, ◌≡◌, true, List, [], ◌∷◌, ◌++◌, length, get_or}
-use Rattle.recording.specs.File.{sizeIn, complete, first}
-use Rattle.mending.specs.Copy.{keptBy}
+use Rattle.recording.specs.File.{size_in, complete, first}
+use Rattle.mending.specs.Copy.{kept_by}
 
 -- x is one complete field and nothing behind it
 pub record Whole (x : List ℕ) : Type 0 where
   pub there : complete x ≡ true
-  pub size : sizeIn x ≡ length x
+  pub size : size_in x ≡ length x
 
 abbrev pub AllWhole : List (List ℕ) → Type 0
 AllWhole [] = Unit
@@ -25,6 +25,6 @@ AllStruck (x ∷ xs) [] = ⊥
 AllStruck (x ∷ xs) (y ∷ ys) = Struck x y × AllStruck xs ys
 
 -- of fields one after another those that stay, each by its own bytes
-abbrev pub keptFields : List (List ℕ) → List ℕ
-keptFields [] = []
-keptFields (y ∷ ys) = keptBy (first y) y ++ keptFields ys
+abbrev pub kept_fields : List (List ℕ) → List ℕ
+kept_fields [] = []
+kept_fields (y ∷ ys) = kept_by (first y) y ++ kept_fields ys

@@ -1,8 +1,8 @@
 // What a checker says: a line for each field, what is left after them, and how many of each sort there were.
 ghost use Rattle.std.specs.Prelude.{◌≡◌, true};
 ghost use Rattle.codec.specs.Number.{Wrote};
-ghost use Rattle.recording.specs.Pieces.{soundOf};
-ghost use Rattle.mending.specs.Check.{foundLine, goodLine, restText, fieldsLine, tallied};
+ghost use Rattle.recording.specs.Pieces.{sound_of};
+ghost use Rattle.mending.specs.Check.{found_line, good_line, rest_text, fields_line, tallied};
 
 use codec::number::Put;
 use recording::field::{Field, Found};
@@ -35,14 +35,14 @@ pub fn count(tally: Tally, found: Found) -> Tally
 }
 
 fn good(out: &mut [u8], at: usize, field: Field) -> Put
-    ensures { Wrote true out.old at (goodLine field.tag field.length) out.new result }
+    ensures { Wrote true out.old at (good_line field.tag field.length) out.new result }
 {
     crate::word::pair(out, at, b"good", field.tag as u64, field.length as u64)
 }
 
 // The line of a field that is complete. An output that is too short for it is left as it was.
 pub fn line(out: &mut [u8], at: usize, field: Field) -> Put
-    ensures { Wrote true out.old at (foundLine field.tag field.length field.found) out.new result }
+    ensures { Wrote true out.old at (found_line field.tag field.length field.found) out.new result }
 {
     let found = field.found;
     let tag = field.tag as u64;
@@ -60,7 +60,7 @@ pub fn line(out: &mut [u8], at: usize, field: Field) -> Put
 
 // How many bytes the end has cut off from a field, where it has.
 pub fn rest(out: &mut [u8], at: usize, place: Place) -> Put
-    ensures { Wrote true out.old at (restText (soundOf place).past) out.new result }
+    ensures { Wrote true out.old at (rest_text (sound_of place).past) out.new result }
 {
     let n = recording::pieces::inside(place);
     if n == 0 {
@@ -71,7 +71,7 @@ pub fn rest(out: &mut [u8], at: usize, place: Place) -> Put
 
 // The last line. How many fields were unknown the place tells.
 pub fn fields(out: &mut [u8], at: usize, tally: Tally, place: Place) -> Put
-    ensures { Wrote true out.old at (fieldsLine tally place.skipped) out.new result }
+    ensures { Wrote true out.old at (fields_line tally place.skipped) out.new result }
 {
     crate::word::triple(
         out,

@@ -1,10 +1,10 @@
 // The copy, made while the file is read in pieces. A field is held from its tag on until it is complete, so that
 // what is kept of it are its own bytes, and nothing is kept of one that the end cuts short.
 ghost use Rattle.std.specs.Prelude.{◌≡◌, ◌+◌};
-ghost use Rattle.recording.specs.Pieces.{next_of, keptOf};
+ghost use Rattle.recording.specs.Pieces.{next_of, kept_of};
 ghost use Rattle.codec.specs.Choice.{pick};
 ghost use Rattle.mending.specs.Copy.{stays};
-ghost use Rattle.mending.specs.Calls.{held_of, keptIn};
+ghost use Rattle.mending.specs.Calls.{held_of, kept_in};
 
 use recording::field::{Field, Found};
 use recording::pieces::{Place, Step};
@@ -13,7 +13,7 @@ use recording::pieces::{Place, Step};
 // field is the front of what is held: 65,538 bytes are enough for the longest.
 pub fn next(place: Place, buffer: &mut [u8; 1472], hold: &mut [u8; 65538], piece: &[u8]) -> Step
     ensures value { result ≡ next_of place buffer.old piece.now }
-    ensures buffer_after { buffer.new ≡ keptOf place buffer.old piece.now }
+    ensures buffer_after { buffer.new ≡ kept_of place buffer.old piece.now }
     ensures hold_after { hold.new ≡ held_of place hold.old piece.now }
 {
     let at = recording::pieces::inside(place);
@@ -38,7 +38,7 @@ fn size(found: Found, length: u16) -> usize
 
 // What the copy has of a field that is complete: its bytes as they are held, or none where it is bad.
 pub fn kept(field: Field, hold: &[u8]) -> &[u8]
-    ensures { result.now ≡ keptIn field hold.now }
+    ensures { result.now ≡ kept_in field hold.now }
 {
     let found = field.found;
     text::part::front(hold, size(found, field.length))

@@ -2,9 +2,9 @@
 // line is left as it was.
 ghost use Rattle.std.specs.Prelude.{true, ◌+◌, ◌≤◌, length};
 ghost use Rattle.codec.specs.Number.{Wrote};
-ghost use Rattle.text.specs.Put.{decimalOf};
+ghost use Rattle.text.specs.Put.{decimal_of};
 ghost use Rattle.text.specs.Short.{Short};
-ghost use Rattle.mending.specs.Check.{numberText, twoText, pairLine, tripleLine};
+ghost use Rattle.mending.specs.Check.{number_text, two_text, pair_line, triple_line};
 
 use codec::number::Put;
 
@@ -18,7 +18,7 @@ fn lay(out: &mut [u8], at: usize, s: &[u8]) -> usize
 
 fn digits(out: &mut [u8], at: usize, v: u64) -> usize
     requires { at + 20 ≤ length out.old }
-    ensures { Short 20 out.old at (decimalOf v) out.new result }
+    ensures { Short 20 out.old at (decimal_of v) out.new result }
 {
     match text::put::decimal(out, at, v) {
         Put::Next(next) => next,
@@ -28,7 +28,7 @@ fn digits(out: &mut [u8], at: usize, v: u64) -> usize
 
 fn number(out: &mut [u8], at: usize, v: u64) -> usize
     requires { at + 21 ≤ length out.old }
-    ensures { Short 21 out.old at (numberText v) out.new result }
+    ensures { Short 21 out.old at (number_text v) out.new result }
 {
     let start = lay(out, at, b" ");
     digits(out, start, v)
@@ -37,7 +37,7 @@ fn number(out: &mut [u8], at: usize, v: u64) -> usize
 fn two(out: &mut [u8], name: &[u8], a: u64, b: u64) -> usize
     requires name_len_bound { length name.now ≤ 8 }
     requires in_bounds { 128 ≤ length out.old }
-    ensures { Short 50 out.old 0 (twoText name.now a b) out.new result }
+    ensures { Short 50 out.old 0 (two_text name.now a b) out.new result }
 {
     let d = lay(out, 0, name);
     let e = number(out, d, a);
@@ -46,7 +46,7 @@ fn two(out: &mut [u8], name: &[u8], a: u64, b: u64) -> usize
 
 pub(crate) fn pair(out: &mut [u8], at: usize, name: &[u8], a: u64, b: u64) -> Put
     requires { length name.now ≤ 8 }
-    ensures { Wrote true out.old at (pairLine name.now a b) out.new result }
+    ensures { Wrote true out.old at (pair_line name.now a b) out.new result }
 {
     let mut text = [0u8; 128];
     let d = two(&mut text, name, a, b);
@@ -56,7 +56,7 @@ pub(crate) fn pair(out: &mut [u8], at: usize, name: &[u8], a: u64, b: u64) -> Pu
 
 pub(crate) fn triple(out: &mut [u8], at: usize, name: &[u8], a: u64, b: u64, c: u64) -> Put
     requires { length name.now ≤ 8 }
-    ensures { Wrote true out.old at (tripleLine name.now a b c) out.new result }
+    ensures { Wrote true out.old at (triple_line name.now a b c) out.new result }
 {
     let mut text = [0u8; 128];
     let d = two(&mut text, name, a, b);

@@ -9,33 +9,33 @@ use lib.ListN.{length, get_or}
 use lib.Dec.{leb, ltb, eqb}
 use borrow.Author.Tests.{eqb-true, ne_eqb}
 use Rattle.codec.specs.Choice.{pick}
-use Rattle.codec.specs.Time.{timeOk}
-use Rattle.codec.specs.Ident.{kind_of, most_of, channelsOk}
+use Rattle.codec.specs.Time.{time_ok}
+use Rattle.codec.specs.Ident.{kind_of, most_of, channels_ok}
 use Rattle.codec.specs.declared.time.Time.{Time}
 use Rattle.codec.specs.declared.time.Nanos.{Nanos}
 use Rattle.codec.specs.declared.ident.Kind.TheVariants as Kind
 use Rattle.mirror.proofs.Kept.{metered}
-use Rattle.framer.specs.Meter.{soundMeter, limitsOk}
+use Rattle.framer.specs.Meter.{sound_meter, limits_ok}
 use Rattle.framer.specs.Queue.{length_at}
 use Rattle.framer.specs.Framer.{take_of, out_of}
 use Rattle.framer.specs.declared.framer.Framer.{Framer}
 use Rattle.framer.proofs.FramerLaws.{sounds}
-use Rattle.bus.specs.Filter.{sameKind, filtered, isFree}
-use Rattle.bus.specs.Source.{passes, freeAt, freePlace, addCause, addedFilter, removeCause}
-use Rattle.bus.specs.Report.{errorBits, errorReport, reportCause, earlyCause, lateCause, tooBig}
-use Rattle.bus.specs.Update.{updateCause}
+use Rattle.bus.specs.Filter.{same_kind, filtered, is_free}
+use Rattle.bus.specs.Source.{passes, free_at, free_place, add_cause, added_filter, remove_cause}
+use Rattle.bus.specs.Report.{error_bits, error_report, report_cause, early_cause, late_cause, too_big}
+use Rattle.bus.specs.Update.{update_cause}
 use Rattle.bus.specs.declared.source.Source.{Source}
 use Rattle.bus.specs.declared.report.Report.{Report}
 use Rattle.bus.specs.declared.update.Update.{Update}
 use Rattle.bus.specs.declared.filter.Addition.{Addition}
-use Rattle.bus.proofs.BusLaws.{error-cause}
-use Rattle.mirror.specs.Engine.{soundOf, causeOf, answered, timed, sourceCause, sourceAt, withSource, asked_of, discardsOf, failuresOf}
-use Rattle.mirror.specs.Setup.{setupOf, switchOf, offlineOf, sourcesOk}
-use Rattle.mirror.specs.Source.{start_of, stopOf, updateOf, addOf, removeOf}
-use Rattle.mirror.specs.Report.{reportOf}
-use Rattle.mirror.specs.Tick.{tickOf}
-use Rattle.mirror.specs.Take.{taken_of, outputOf}
-use Rattle.mirror.specs.Failed.{failedOf}
+use Rattle.bus.proofs.BusLaws.{error_cause}
+use Rattle.mirror.specs.Engine.{sound_of, cause_of, answered, timed, source_cause, source_at, with_source, asked_of, discards_of, failures_of}
+use Rattle.mirror.specs.Setup.{setup_of, switch_of, offline_of, sources_ok}
+use Rattle.mirror.specs.Source.{start_of, stop_of, update_of, add_of, remove_of}
+use Rattle.mirror.specs.Report.{report_of}
+use Rattle.mirror.specs.Tick.{tick_of}
+use Rattle.mirror.specs.Take.{taken_of, output_of}
+use Rattle.mirror.specs.Failed.{failed_of}
 use Rattle.mirror.specs.Call.{Call, Step, step_of}
 use Rattle.mirror.specs.Call as Call
 use Rattle.mirror.specs.declared.engine.Engine.{Engine}
@@ -88,20 +88,20 @@ quiet : (e after : Engine) (cause : ℕ) (back : Nanos) → ((answered e cause a
 unfolding timed
 quiet e after cause back n = rw (ne_eqb (answered e cause after).answer 0 n)
 
-added : (e : Engine) (a : Addition) → ((addOf e a).answer ≡ 0 → ⊥) → ((addOf e a).engine ≡ e) × ((addOf e a).number ≡ 0)
-unfolding addOf
-added e a n = go (eqb (causeOf e (addCause e.count (sourceAt e a.source) a)) 0) refl
+added : (e : Engine) (a : Addition) → ((add_of e a).answer ≡ 0 → ⊥) → ((add_of e a).engine ≡ e) × ((add_of e a).number ≡ 0)
+unfolding add_of
+added e a n = go (eqb (cause_of e (add_cause e.count (source_at e a.source) a)) 0) refl
   where
-    go : (b : Bool) → eqb (causeOf e (addCause e.count (sourceAt e a.source) a)) 0 ≡ b → ((addOf e a).engine ≡ e) × ((addOf e a).number ≡ 0)
+    go : (b : Bool) → eqb (cause_of e (add_cause e.count (source_at e a.source) a)) 0 ≡ b → ((add_of e a).engine ≡ e) × ((add_of e a).number ≡ 0)
     go false q = (rw q, rw q)
     go true q = let z : ⊥ = n (rw q) in absurd z
 
 took : (w : Framer) (out : List ℕ) → ((take_of w (length out)).answer ≡ 0 → ⊥)
     → ((take_of w (length out)).framer ≡ w) × ((take_of w (length out)).length ≡ 0) × (out_of w out ≡ out)
 unfolding take_of out_of
-took w out n = go (soundMeter w.meter) (eqb w.meter.waiting 0) (ltb (length out) (length_at w.queue w.meter.first)) refl refl refl
+took w out n = go (sound_meter w.meter) (eqb w.meter.waiting 0) (ltb (length out) (length_at w.queue w.meter.first)) refl refl refl
   where
-    go : (a b d : Bool) → soundMeter w.meter ≡ a → eqb w.meter.waiting 0 ≡ b → ltb (length out) (length_at w.queue w.meter.first) ≡ d
+    go : (a b d : Bool) → sound_meter w.meter ≡ a → eqb w.meter.waiting 0 ≡ b → ltb (length out) (length_at w.queue w.meter.first) ≡ d
         → ((take_of w (length out)).framer ≡ w) × ((take_of w (length out)).length ≡ 0) × (out_of w out ≡ out)
     go false b d p q r = (rw p, rw p, rw p)
     go true true d p q r = (rw (p, q), rw (p, q), rw (p, q))
@@ -109,11 +109,11 @@ took w out n = go (soundMeter w.meter) (eqb w.meter.waiting 0) (ltb (length out)
     go true false false p q r = let z : ⊥ = n (rw (p, q, r)) in absurd z
 
 taken : (e : Engine) (out : List ℕ) → ((taken_of e (length out)).answer ≡ 0 → ⊥)
-    → ((taken_of e (length out)).engine ≡ e) × ((taken_of e (length out)).length ≡ 0) × (outputOf e out ≡ out)
-unfolding taken_of outputOf
-taken e out n = go (soundOf e) refl
+    → ((taken_of e (length out)).engine ≡ e) × ((taken_of e (length out)).length ≡ 0) × (output_of e out ≡ out)
+unfolding taken_of output_of
+taken e out n = go (sound_of e) refl
   where
-    go : (b : Bool) → soundOf e ≡ b → ((taken_of e (length out)).engine ≡ e) × ((taken_of e (length out)).length ≡ 0) × (outputOf e out ≡ out)
+    go : (b : Bool) → sound_of e ≡ b → ((taken_of e (length out)).engine ≡ e) × ((taken_of e (length out)).length ≡ 0) × (output_of e out ≡ out)
     go false q = (rw q, rw q, rw q)
     go true q =
         let t = took e.framer out (λ z. n (rw q z)) in
@@ -121,15 +121,15 @@ taken e out n = go (soundOf e) refl
 
 uncounted : (e : Engine) (k : ℕ) → ((asked_of e k).answer ≡ 0 → ⊥) → (asked_of e k).count ≡ 0
 unfolding asked_of
-uncounted e k n = go (soundOf e) refl
+uncounted e k n = go (sound_of e) refl
   where
-    go : (b : Bool) → soundOf e ≡ b → (asked_of e k).count ≡ 0
+    go : (b : Bool) → sound_of e ≡ b → (asked_of e k).count ≡ 0
     go false q = rw q
     go true q = let z : ⊥ = n (rw q) in absurd z
 
 -- a refused call leaves everything as it was
 pub refused-keeps : (e : Engine) (c : Call) → ((step_of e c).said.answer ≡ 0 → ⊥) → Untouched e c (step_of e c)
-unfolding setupOf switchOf offlineOf start_of stopOf reportOf updateOf removeOf tickOf timed failedOf discardsOf failuresOf
+unfolding setup_of switch_of offline_of start_of stop_of report_of update_of remove_of tick_of timed failed_of discards_of failures_of
 refused-keeps e (Call.setup size room deadline pairs) n = record { engine = plainly e _ _ n; number = refl; output = refl }
 refused-keeps e (Call.switch size room deadline) n = record { engine = plainly e _ _ n; number = refl; output = refl }
 refused-keeps e Call.offline n = record { engine = plainly e _ _ n; number = refl; output = refl }
@@ -156,152 +156,152 @@ refused-keeps e Call.discards n = record { engine = refl; number = uncounted e _
 refused-keeps e Call.failures n = record { engine = refl; number = uncounted e _ n; output = refl }
 
 -- where the rule is broken, 19
-plainly-19 : (e after : Engine) (cause : ℕ) → soundOf e ≡ false → (answered e (causeOf e cause) after).answer ≡ 19
-unfolding answered causeOf
-plainly-19 e after cause s = rw s
+plainly_19 : (e after : Engine) (cause : ℕ) → sound_of e ≡ false → (answered e (cause_of e cause) after).answer ≡ 19
+unfolding answered cause_of
+plainly_19 e after cause s = rw s
 
-added-19 : (e : Engine) (a : Addition) → soundOf e ≡ false → (addOf e a).answer ≡ 19
-unfolding addOf causeOf
-added-19 e a s = rw s
+added_19 : (e : Engine) (a : Addition) → sound_of e ≡ false → (add_of e a).answer ≡ 19
+unfolding add_of cause_of
+added_19 e a s = rw s
 
-taken-19 : (e : Engine) (n : ℕ) → soundOf e ≡ false → (taken_of e n).answer ≡ 19
+taken_19 : (e : Engine) (n : ℕ) → sound_of e ≡ false → (taken_of e n).answer ≡ 19
 unfolding taken_of
-taken-19 e n s = rw s
+taken_19 e n s = rw s
 
 -- else a number below it
 below : (b : Bool) (k r : ℕ) → k < 19 → r < 19 → pick b k r < 19
 below true k r h g = h
 below false k r h g = g
 
-early-below : (count : ℕ) (s : Source) (r : Report) (n rest : ℕ) → rest < 19 → earlyCause count s r n rest < 19
-unfolding earlyCause
-early-below count s r n rest h =
-    below (not (timeOk r.time)) 7 _ (omega arith)
+early_below : (count : ℕ) (s : Source) (r : Report) (n rest : ℕ) → rest < 19 → early_cause count s r n rest < 19
+unfolding early_cause
+early_below count s r n rest h =
+    below (not (time_ok r.time)) 7 _ (omega arith)
     (below (leb count r.source) 2 _ (omega arith)
-    (below (not (sameKind s.kind (kind_of r.ident))) 4 _ (omega arith)
+    (below (not (same_kind s.kind (kind_of r.ident))) 4 _ (omega arith)
     (below (not s.started) 3 _ (omega arith)
     (below (not r.ranged) 5 _ (omega arith)
     (below (ltb (most_of r.ident) n) 6 rest (omega arith) h)))))
 
-late_below : (f : ℕ) (s : Source) (r : Report) (n : ℕ) → lateCause f s r n < 19
-unfolding lateCause
+late_below : (f : ℕ) (s : Source) (r : Report) (n : ℕ) → late_cause f s r n < 19
+unfolding late_cause
 late_below f s r n =
-    below (filtered r.ident && not (passes s.places r.ident)) 1 _ (omega arith) (below (tooBig f r n) 8 0 (omega arith) (omega arith))
+    below (filtered r.ident && not (passes s.places r.ident)) 1 _ (omega arith) (below (too_big f r n) 8 0 (omega arith) (omega arith))
 
-report-below : (count f : ℕ) (s : Source) (r : Report) (n : ℕ) → reportCause count f s r n < 19
-unfolding reportCause
-report-below count f s r n = early-below count s r n (lateCause f s r n) (late_below f s r n)
+report_below : (count f : ℕ) (s : Source) (r : Report) (n : ℕ) → report_cause count f s r n < 19
+unfolding report_cause
+report_below count f s r n = early_below count s r n (late_cause f s r n) (late_below f s r n)
 
-update-below : (count : ℕ) (s : Source) (u : Update) → updateCause count s u < 19
-unfolding updateCause
-update-below count s u =
-    below (leb count u.source) 2 _ (omega arith) (below (not (sameKind s.kind u.kind)) 4 _ (omega arith)
+update_below : (count : ℕ) (s : Source) (u : Update) → update_cause count s u < 19
+unfolding update_cause
+update_below count s u =
+    below (leb count u.source) 2 _ (omega arith) (below (not (same_kind s.kind u.kind)) 4 _ (omega arith)
     (below (not s.started) 3 _ (omega arith) (below (not u.good) 5 0 (omega arith) (omega arith))))
 
-add-below : (count : ℕ) (s : Source) (a : Addition) → addCause count s a < 19
-unfolding addCause
-add-below count s a =
-    below (leb count a.source) 2 _ (omega arith) (below (not (sameKind s.kind a.kind)) 4 _ (omega arith)
-    (below (not a.good) 9 _ (omega arith) (below (eqb (freeAt s.places) 8) 10 0 (omega arith) (omega arith))))
+add_below : (count : ℕ) (s : Source) (a : Addition) → add_cause count s a < 19
+unfolding add_cause
+add_below count s a =
+    below (leb count a.source) 2 _ (omega arith) (below (not (same_kind s.kind a.kind)) 4 _ (omega arith)
+    (below (not a.good) 9 _ (omega arith) (below (eqb (free_at s.places) 8) 10 0 (omega arith) (omega arith))))
 
-remove-below : (s : Source) (number : ℕ) → removeCause s number < 19
-unfolding removeCause
-remove-below s number =
-    below (leb 8 number) 11 _ (omega arith) (below (isFree (get_or s.places number freePlace).filter) 11 0 (omega arith) (omega arith))
+remove_below : (s : Source) (number : ℕ) → remove_cause s number < 19
+unfolding remove_cause
+remove_below s number =
+    below (leb 8 number) 11 _ (omega arith) (below (is_free (get_or s.places number free_place).filter) 11 0 (omega arith) (omega arith))
 
-source-below : (e : Engine) (source rest : ℕ) → rest < 19 → sourceCause e source rest < 19
-unfolding sourceCause
-source-below e source rest h = below (leb e.count source) 2 rest (omega arith) h
+source_below : (e : Engine) (source rest : ℕ) → rest < 19 → source_cause e source rest < 19
+unfolding source_cause
+source_below e source rest h = below (leb e.count source) 2 rest (omega arith) h
 
-plainly-below : (e after : Engine) (cause : ℕ) → soundOf e ≡ true → cause < 19 → (answered e (causeOf e cause) after).answer < 19
-unfolding answered causeOf
-plainly-below e after cause s h = rw s (go (eqb cause 0))
+plainly_below : (e after : Engine) (cause : ℕ) → sound_of e ≡ true → cause < 19 → (answered e (cause_of e cause) after).answer < 19
+unfolding answered cause_of
+plainly_below e after cause s h = rw s (go (eqb cause 0))
   where
     go : (b : Bool) → (pick {A = Outcome} b (record { engine = after; answer = 0 }) (record { engine = e; answer = cause })).answer < 19
     go true = omega arith
     go false = h
 
-added-below : (e : Engine) (a : Addition) → soundOf e ≡ true → (addOf e a).answer < 19
-unfolding addOf causeOf
-added-below e a s = rw s (go (eqb (addCause e.count (sourceAt e a.source) a) 0))
+added_below : (e : Engine) (a : Addition) → sound_of e ≡ true → (add_of e a).answer < 19
+unfolding add_of cause_of
+added_below e a s = rw s (go (eqb (add_cause e.count (source_at e a.source) a) 0))
   where
     go : (b : Bool) → (pick {A = Added} b
-        (record { engine = withSource e a.source (addedFilter (sourceAt e a.source) a.filter) e.framer; answer = 0; number = freeAt (sourceAt e a.source).places })
-        (record { engine = e; answer = addCause e.count (sourceAt e a.source) a; number = 0 })).answer < 19
+        (record { engine = with_source e a.source (added_filter (source_at e a.source) a.filter) e.framer; answer = 0; number = free_at (source_at e a.source).places })
+        (record { engine = e; answer = add_cause e.count (source_at e a.source) a; number = 0 })).answer < 19
     go true = omega arith
-    go false = add-below e.count (sourceAt e a.source) a
+    go false = add_below e.count (source_at e a.source) a
 
-took-below : (w : Framer) (n : ℕ) → soundMeter w.meter ≡ true → (take_of w n).answer < 19
+took_below : (w : Framer) (n : ℕ) → sound_meter w.meter ≡ true → (take_of w n).answer < 19
 unfolding take_of
-took-below w n m = go (eqb w.meter.waiting 0) (ltb n (length_at w.queue w.meter.first)) refl refl
+took_below w n m = go (eqb w.meter.waiting 0) (ltb n (length_at w.queue w.meter.first)) refl refl
   where
     go : (a b : Bool) → eqb w.meter.waiting 0 ≡ a → ltb n (length_at w.queue w.meter.first) ≡ b → (take_of w n).answer < 19
     go true b p q = rw (m, p) (omega arith)
     go false true p q = rw (m, p, q) (omega arith)
     go false false p q = rw (m, p, q) (omega arith)
 
-taken-below : (e : Engine) (n : ℕ) → soundOf e ≡ true → (taken_of e n).answer < 19
+taken_below : (e : Engine) (n : ℕ) → sound_of e ≡ true → (taken_of e n).answer < 19
 unfolding taken_of
-taken-below e n s = rw s (took-below e.framer n (metered e s))
+taken_below e n s = rw s (took_below e.framer n (metered e s))
 
-pub broken : (e : Engine) (c : Call) → soundOf e ≡ false → (step_of e c).said.answer ≡ 19
-unfolding setupOf switchOf offlineOf start_of stopOf reportOf updateOf removeOf tickOf timed failedOf asked_of discardsOf failuresOf
-broken e (Call.setup size room deadline pairs) s = plainly-19 e _ _ s
-broken e (Call.switch size room deadline) s = plainly-19 e _ _ s
-broken e Call.offline s = plainly-19 e _ _ s
-broken e (Call.start source) s = plainly-19 e _ _ s
-broken e (Call.stop source) s = plainly-19 e _ _ s
-broken e (Call.can source t key payload) s = plainly-19 e _ _ s
-broken e (Call.lin source t pid errors payload) s = plainly-19 e _ _ s
-broken e (Call.flexray source t channels slot cycle payload) s = plainly-19 e _ _ s
-broken e (Call.conflict source t channels slot cycle) s = plainly-19 e _ _ s
-broken e (Call.flexray-error source t channels bits) s = plainly-19 e _ _ s
-broken e (Call.can-state source online passive busOff counter) s = plainly-19 e _ _ s
-broken e (Call.lin-state source online) s = plainly-19 e _ _ s
-broken e (Call.flexray-state source online bits) s = plainly-19 e _ _ s
-broken e (Call.can-mask source mask code) s = added-19 e _ s
-broken e (Call.can-range source lower upper) s = added-19 e _ s
-broken e (Call.lin-mask source mask code) s = added-19 e _ s
-broken e (Call.lin-range source lower upper) s = added-19 e _ s
-broken e (Call.slots source low high lowCycle highCycle repetition) s = added-19 e _ s
-broken e (Call.remove source number) s = plainly-19 e _ _ s
-broken e (Call.tick t) s = plainly-19 e _ _ s
-broken e (Call.take out) s = taken-19 e (length out) s
-broken e Call.failed s = plainly-19 e _ _ s
+pub broken : (e : Engine) (c : Call) → sound_of e ≡ false → (step_of e c).said.answer ≡ 19
+unfolding setup_of switch_of offline_of start_of stop_of report_of update_of remove_of tick_of timed failed_of asked_of discards_of failures_of
+broken e (Call.setup size room deadline pairs) s = plainly_19 e _ _ s
+broken e (Call.switch size room deadline) s = plainly_19 e _ _ s
+broken e Call.offline s = plainly_19 e _ _ s
+broken e (Call.start source) s = plainly_19 e _ _ s
+broken e (Call.stop source) s = plainly_19 e _ _ s
+broken e (Call.can source t key payload) s = plainly_19 e _ _ s
+broken e (Call.lin source t pid errors payload) s = plainly_19 e _ _ s
+broken e (Call.flexray source t channels slot cycle payload) s = plainly_19 e _ _ s
+broken e (Call.conflict source t channels slot cycle) s = plainly_19 e _ _ s
+broken e (Call.flexray-error source t channels bits) s = plainly_19 e _ _ s
+broken e (Call.can-state source online passive busOff counter) s = plainly_19 e _ _ s
+broken e (Call.lin-state source online) s = plainly_19 e _ _ s
+broken e (Call.flexray-state source online bits) s = plainly_19 e _ _ s
+broken e (Call.can-mask source mask code) s = added_19 e _ s
+broken e (Call.can-range source lower upper) s = added_19 e _ s
+broken e (Call.lin-mask source mask code) s = added_19 e _ s
+broken e (Call.lin-range source lower upper) s = added_19 e _ s
+broken e (Call.slots source low high lowCycle highCycle repetition) s = added_19 e _ s
+broken e (Call.remove source number) s = plainly_19 e _ _ s
+broken e (Call.tick t) s = plainly_19 e _ _ s
+broken e (Call.take out) s = taken_19 e (length out) s
+broken e Call.failed s = plainly_19 e _ _ s
 broken e Call.discards s = rw s
 broken e Call.failures s = rw s
 
-pub not-broken : (e : Engine) (c : Call) → soundOf e ≡ true → (step_of e c).said.answer < 19
-unfolding setupOf switchOf offlineOf start_of stopOf reportOf updateOf removeOf tickOf timed failedOf asked_of discardsOf failuresOf
-not-broken e (Call.setup size room deadline pairs) s = plainly-below e _ _ s (below (eqb e.count 0 && limitsOk size room deadline && sourcesOk pairs) 0 14 (omega arith) (omega arith))
-not-broken e (Call.switch size room deadline) s = plainly-below e _ _ s (below (not (eqb e.count 0) && limitsOk size room deadline) 0 14 (omega arith) (omega arith))
-not-broken e Call.offline s = plainly-below e _ _ s (omega arith)
-not-broken e (Call.start source) s = plainly-below e _ _ s (source-below e source 0 (omega arith))
-not-broken e (Call.stop source) s = plainly-below e _ _ s (source-below e source 0 (omega arith))
-not-broken e (Call.can source t key payload) s = plainly-below e _ _ s (report-below _ _ _ _ _)
-not-broken e (Call.lin source t pid errors payload) s = plainly-below e _ _ s (report-below _ _ _ _ _)
-not-broken e (Call.flexray source t channels slot cycle payload) s = plainly-below e _ _ s (report-below _ _ _ _ _)
-not-broken e (Call.conflict source t channels slot cycle) s = plainly-below e _ _ s (report-below _ _ _ _ _)
-not-broken e (Call.flexray-error source t channels bits) s = plainly-below e _ _ s (report-below _ _ _ _ _)
-not-broken e (Call.can-state source online passive busOff counter) s = plainly-below e _ _ s (update-below _ _ _)
-not-broken e (Call.lin-state source online) s = plainly-below e _ _ s (update-below _ _ _)
-not-broken e (Call.flexray-state source online bits) s = plainly-below e _ _ s (update-below _ _ _)
-not-broken e (Call.can-mask source mask code) s = added-below e _ s
-not-broken e (Call.can-range source lower upper) s = added-below e _ s
-not-broken e (Call.lin-mask source mask code) s = added-below e _ s
-not-broken e (Call.lin-range source lower upper) s = added-below e _ s
-not-broken e (Call.slots source low high lowCycle highCycle repetition) s = added-below e _ s
-not-broken e (Call.remove source number) s = plainly-below e _ _ s (source-below e source _ (remove-below (sourceAt e source) number))
-not-broken e (Call.tick t) s = plainly-below e _ _ s (below (not (timeOk t)) 7 0 (omega arith) (omega arith))
-not-broken e (Call.take out) s = taken-below e (length out) s
-not-broken e Call.failed s = plainly-below e _ _ s (below e.framer.meter.out 0 17 (omega arith) (omega arith))
-not-broken e Call.discards s = rw s (omega arith)
-not-broken e Call.failures s = rw s (omega arith)
+pub not_broken : (e : Engine) (c : Call) → sound_of e ≡ true → (step_of e c).said.answer < 19
+unfolding setup_of switch_of offline_of start_of stop_of report_of update_of remove_of tick_of timed failed_of asked_of discards_of failures_of
+not_broken e (Call.setup size room deadline pairs) s = plainly_below e _ _ s (below (eqb e.count 0 && limits_ok size room deadline && sources_ok pairs) 0 14 (omega arith) (omega arith))
+not_broken e (Call.switch size room deadline) s = plainly_below e _ _ s (below (not (eqb e.count 0) && limits_ok size room deadline) 0 14 (omega arith) (omega arith))
+not_broken e Call.offline s = plainly_below e _ _ s (omega arith)
+not_broken e (Call.start source) s = plainly_below e _ _ s (source_below e source 0 (omega arith))
+not_broken e (Call.stop source) s = plainly_below e _ _ s (source_below e source 0 (omega arith))
+not_broken e (Call.can source t key payload) s = plainly_below e _ _ s (report_below _ _ _ _ _)
+not_broken e (Call.lin source t pid errors payload) s = plainly_below e _ _ s (report_below _ _ _ _ _)
+not_broken e (Call.flexray source t channels slot cycle payload) s = plainly_below e _ _ s (report_below _ _ _ _ _)
+not_broken e (Call.conflict source t channels slot cycle) s = plainly_below e _ _ s (report_below _ _ _ _ _)
+not_broken e (Call.flexray-error source t channels bits) s = plainly_below e _ _ s (report_below _ _ _ _ _)
+not_broken e (Call.can-state source online passive busOff counter) s = plainly_below e _ _ s (update_below _ _ _)
+not_broken e (Call.lin-state source online) s = plainly_below e _ _ s (update_below _ _ _)
+not_broken e (Call.flexray-state source online bits) s = plainly_below e _ _ s (update_below _ _ _)
+not_broken e (Call.can-mask source mask code) s = added_below e _ s
+not_broken e (Call.can-range source lower upper) s = added_below e _ s
+not_broken e (Call.lin-mask source mask code) s = added_below e _ s
+not_broken e (Call.lin-range source lower upper) s = added_below e _ s
+not_broken e (Call.slots source low high lowCycle highCycle repetition) s = added_below e _ s
+not_broken e (Call.remove source number) s = plainly_below e _ _ s (source_below e source _ (remove_below (source_at e source) number))
+not_broken e (Call.tick t) s = plainly_below e _ _ s (below (not (time_ok t)) 7 0 (omega arith) (omega arith))
+not_broken e (Call.take out) s = taken_below e (length out) s
+not_broken e Call.failed s = plainly_below e _ _ s (below e.framer.meter.out 0 17 (omega arith) (omega arith))
+not_broken e Call.discards s = rw s (omega arith)
+not_broken e Call.failures s = rw s (omega arith)
 
 -- an error without a frame is answered with 19, 7, 2, 4, 3, 5 or 0, the first that holds, and with no other number
-answer-is : (e after : Engine) (cause : ℕ) → (answered e cause after).answer ≡ cause
+answer_is : (e after : Engine) (cause : ℕ) → (answered e cause after).answer ≡ cause
 unfolding answered
-answer-is e after cause = go (eqb cause 0) refl
+answer_is e after cause = go (eqb cause 0) refl
   where
     go : (b : Bool) → eqb cause 0 ≡ b → (answered e cause after).answer ≡ cause
     go true q = rw q (sym (eqb-true cause 0 q))
@@ -310,22 +310,22 @@ answer-is e after cause = go (eqb cause 0) refl
 module _ (e : Engine) (source : ℕ) (t : Time) (channels bits : ℕ) where
   abbrev pub errorCause : ℕ
   errorCause =
-      pick (not (timeOk t)) 7
+      pick (not (time_ok t)) 7
       (pick (leb e.count source) 2
-      (pick (not (sameKind (sourceAt e source).kind Kind.FlexRay)) 4
-      (pick (not (sourceAt e source).started) 3
-      (pick (not (channelsOk channels && errorBits bits)) 5
+      (pick (not (same_kind (source_at e source).kind Kind.FlexRay)) 4
+      (pick (not (source_at e source).started) 3
+      (pick (not (channels_ok channels && error_bits bits)) 5
       0))))
 
-  error-caused : causeOf e (reportCause e.count e.framer.meter.size (sourceAt e source) (errorReport source t channels bits) 0) ≡ causeOf e errorCause
-  unfolding causeOf
-  error-caused = go (soundOf e) refl
+  error_caused : cause_of e (report_cause e.count e.framer.meter.size (source_at e source) (error_report source t channels bits) 0) ≡ cause_of e errorCause
+  unfolding cause_of
+  error_caused = go (sound_of e) refl
     where
-      go : (b : Bool) → soundOf e ≡ b
-          → pick (soundOf e) (reportCause e.count e.framer.meter.size (sourceAt e source) (errorReport source t channels bits) 0) 19 ≡ pick (soundOf e) errorCause 19
-      go true q = rw q (error-cause e.count e.framer.meter.size (sourceAt e source) source t channels bits (omega (arith, (sounds e.framer.meter (metered e q)).size-least)))
+      go : (b : Bool) → sound_of e ≡ b
+          → pick (sound_of e) (report_cause e.count e.framer.meter.size (source_at e source) (error_report source t channels bits) 0) 19 ≡ pick (sound_of e) errorCause 19
+      go true q = rw q (error_cause e.count e.framer.meter.size (source_at e source) source t channels bits (omega (arith, (sounds e.framer.meter (metered e q)).size_least)))
       go false q = rw q
 
-  pub error-answer : (step_of e (Call.flexray-error source t channels bits)).said.answer ≡ causeOf e errorCause
-  unfolding reportOf timed errorReport
-  error-answer = answer-is e _ _ ∙ error-caused
+  pub error_answer : (step_of e (Call.flexray-error source t channels bits)).said.answer ≡ cause_of e errorCause
+  unfolding report_of timed error_report
+  error_answer = answer_is e _ _ ∙ error_caused

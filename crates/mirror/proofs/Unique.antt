@@ -26,77 +26,77 @@ use Rattle.mirror.proofs.engine.Engine.failed.Reads as failed
 use Rattle.mirror.proofs.engine.Engine.failures.Reads as failures
 use Rattle.mirror.proofs.engine.Engine.tick.Reads as tick
 
-pub fresh-unique : (κs : _) (a : _) (r r' : _) (x x' : _) → fresh.Post κs a r x → fresh.Post κs a r' x' → r ≡ r'
-fresh-unique κs a r r' x x' p q = p ∙ sym q
+pub fresh_unique : (κs : _) (a : _) (r r' : _) (x x' : _) → fresh.Post κs a r x → fresh.Post κs a r' x' → r ≡ r'
+fresh_unique κs a r r' x x' p q = p ∙ sym q
 
-pub discards-unique : (κs : _) (a : _) (r r' : _) (x x' : _) → discards.Post κs a r x → discards.Post κs a r' x' → r ≡ r'
-discards-unique κs a r r' x x' p q = p ∙ sym q
+pub discards_unique : (κs : _) (a : _) (r r' : _) (x x' : _) → discards.Post κs a r x → discards.Post κs a r' x' → r ≡ r'
+discards_unique κs a r r' x x' p q = p ∙ sym q
 
-pub can-unique : (κs : _) (a : _) (r r' : _) (x x' : _) → can.Post κs a r x → can.Post κs a r' x' → r ≡ r'
-can-unique κs a r r' x x' p q = p ∙ sym q
+pub can_unique : (κs : _) (a : _) (r r' : _) (x x' : _) → can.Post κs a r x → can.Post κs a r' x' → r ≡ r'
+can_unique κs a r r' x x' p q = p ∙ sym q
 
-pub lin-unique : (κs : _) (a : _) (r r' : _) (x x' : _) → lin.Post κs a r x → lin.Post κs a r' x' → r ≡ r'
-lin-unique κs a r r' x x' p q = p ∙ sym q
+pub lin_unique : (κs : _) (a : _) (r r' : _) (x x' : _) → lin.Post κs a r x → lin.Post κs a r' x' → r ≡ r'
+lin_unique κs a r r' x x' p q = p ∙ sym q
 
-pub flexray-unique : (κs : _) (a : _) (r r' : _) (x x' : _) → flexray.Post κs a r x → flexray.Post κs a r' x' → r ≡ r'
-flexray-unique κs a r r' x x' p q = p ∙ sym q
+pub flexray_unique : (κs : _) (a : _) (r r' : _) (x x' : _) → flexray.Post κs a r x → flexray.Post κs a r' x' → r ≡ r'
+flexray_unique κs a r r' x x' p q = p ∙ sym q
 
-pub conflict-unique : (κs : _) (a : _) (r r' : _) (x x' : _) → conflict.Post κs a r x → conflict.Post κs a r' x' → r ≡ r'
-conflict-unique κs a r r' x x' p q = p ∙ sym q
+pub conflict_unique : (κs : _) (a : _) (r r' : _) (x x' : _) → conflict.Post κs a r x → conflict.Post κs a r' x' → r ≡ r'
+conflict_unique κs a r r' x x' p q = p ∙ sym q
 
-pub flexray-error-unique : (κs : _) (a : _) (r r' : _) (x x' : _) → flexray-error.Post κs a r x → flexray-error.Post κs a r' x' → r ≡ r'
-flexray-error-unique κs a r r' x x' p q = p ∙ sym q
+pub flexray_error_unique : (κs : _) (a : _) (r r' : _) (x x' : _) → flexray-error.Post κs a r x → flexray-error.Post κs a r' x' → r ≡ r'
+flexray_error_unique κs a r r' x x' p q = p ∙ sym q
 
-pub setup-unique : (κs : _) (a : _) (r r' : _) (x x' : _) → setup.Post κs a r x → setup.Post κs a r' x' → r ≡ r'
-setup-unique κs a r r' x x' p q = p ∙ sym q
+pub setup_unique : (κs : _) (a : _) (r r' : _) (x x' : _) → setup.Post κs a r x → setup.Post κs a r' x' → r ≡ r'
+setup_unique κs a r r' x x' p q = p ∙ sym q
 
-pub switch-unique : (κs : _) (a : _) (r r' : _) (x x' : _) → switch.Post κs a r x → switch.Post κs a r' x' → r ≡ r'
-switch-unique κs a r r' x x' p q = p ∙ sym q
+pub switch_unique : (κs : _) (a : _) (r r' : _) (x x' : _) → switch.Post κs a r x → switch.Post κs a r' x' → r ≡ r'
+switch_unique κs a r r' x x' p q = p ∙ sym q
 
-pub offline-unique : (κs : _) (a : _) (r r' : _) (x x' : _) → offline.Post κs a r x → offline.Post κs a r' x' → r ≡ r'
-offline-unique κs a r r' x x' p q = p ∙ sym q
+pub offline_unique : (κs : _) (a : _) (r r' : _) (x x' : _) → offline.Post κs a r x → offline.Post κs a r' x' → r ≡ r'
+offline_unique κs a r r' x x' p q = p ∙ sym q
 
-pub start-unique : (κs : _) (a : _) (r r' : _) (x x' : _) → start.Post κs a r x → start.Post κs a r' x' → r ≡ r'
-start-unique κs a r r' x x' p q = p ∙ sym q
+pub start_unique : (κs : _) (a : _) (r r' : _) (x x' : _) → start.Post κs a r x → start.Post κs a r' x' → r ≡ r'
+start_unique κs a r r' x x' p q = p ∙ sym q
 
-pub stop-unique : (κs : _) (a : _) (r r' : _) (x x' : _) → stop.Post κs a r x → stop.Post κs a r' x' → r ≡ r'
-stop-unique κs a r r' x x' p q = p ∙ sym q
+pub stop_unique : (κs : _) (a : _) (r r' : _) (x x' : _) → stop.Post κs a r x → stop.Post κs a r' x' → r ≡ r'
+stop_unique κs a r r' x x' p q = p ∙ sym q
 
-pub can-state-unique : (κs : _) (a : _) (r r' : _) (x x' : _) → can-state.Post κs a r x → can-state.Post κs a r' x' → r ≡ r'
-can-state-unique κs a r r' x x' p q = p ∙ sym q
+pub can_state_unique : (κs : _) (a : _) (r r' : _) (x x' : _) → can-state.Post κs a r x → can-state.Post κs a r' x' → r ≡ r'
+can_state_unique κs a r r' x x' p q = p ∙ sym q
 
-pub lin-state-unique : (κs : _) (a : _) (r r' : _) (x x' : _) → lin-state.Post κs a r x → lin-state.Post κs a r' x' → r ≡ r'
-lin-state-unique κs a r r' x x' p q = p ∙ sym q
+pub lin_state_unique : (κs : _) (a : _) (r r' : _) (x x' : _) → lin-state.Post κs a r x → lin-state.Post κs a r' x' → r ≡ r'
+lin_state_unique κs a r r' x x' p q = p ∙ sym q
 
-pub flexray-state-unique : (κs : _) (a : _) (r r' : _) (x x' : _) → flexray-state.Post κs a r x → flexray-state.Post κs a r' x' → r ≡ r'
-flexray-state-unique κs a r r' x x' p q = p ∙ sym q
+pub flexray_state_unique : (κs : _) (a : _) (r r' : _) (x x' : _) → flexray-state.Post κs a r x → flexray-state.Post κs a r' x' → r ≡ r'
+flexray_state_unique κs a r r' x x' p q = p ∙ sym q
 
-pub can-mask-unique : (κs : _) (a : _) (r r' : _) (x x' : _) → can-mask.Post κs a r x → can-mask.Post κs a r' x' → r ≡ r'
-can-mask-unique κs a r r' x x' p q = p ∙ sym q
+pub can_mask_unique : (κs : _) (a : _) (r r' : _) (x x' : _) → can-mask.Post κs a r x → can-mask.Post κs a r' x' → r ≡ r'
+can_mask_unique κs a r r' x x' p q = p ∙ sym q
 
-pub can-range-unique : (κs : _) (a : _) (r r' : _) (x x' : _) → can-range.Post κs a r x → can-range.Post κs a r' x' → r ≡ r'
-can-range-unique κs a r r' x x' p q = p ∙ sym q
+pub can_range_unique : (κs : _) (a : _) (r r' : _) (x x' : _) → can-range.Post κs a r x → can-range.Post κs a r' x' → r ≡ r'
+can_range_unique κs a r r' x x' p q = p ∙ sym q
 
-pub lin-mask-unique : (κs : _) (a : _) (r r' : _) (x x' : _) → lin-mask.Post κs a r x → lin-mask.Post κs a r' x' → r ≡ r'
-lin-mask-unique κs a r r' x x' p q = p ∙ sym q
+pub lin_mask_unique : (κs : _) (a : _) (r r' : _) (x x' : _) → lin-mask.Post κs a r x → lin-mask.Post κs a r' x' → r ≡ r'
+lin_mask_unique κs a r r' x x' p q = p ∙ sym q
 
-pub lin-range-unique : (κs : _) (a : _) (r r' : _) (x x' : _) → lin-range.Post κs a r x → lin-range.Post κs a r' x' → r ≡ r'
-lin-range-unique κs a r r' x x' p q = p ∙ sym q
+pub lin_range_unique : (κs : _) (a : _) (r r' : _) (x x' : _) → lin-range.Post κs a r x → lin-range.Post κs a r' x' → r ≡ r'
+lin_range_unique κs a r r' x x' p q = p ∙ sym q
 
-pub slots-unique : (κs : _) (a : _) (r r' : _) (x x' : _) → slots.Post κs a r x → slots.Post κs a r' x' → r ≡ r'
-slots-unique κs a r r' x x' p q = p ∙ sym q
+pub slots_unique : (κs : _) (a : _) (r r' : _) (x x' : _) → slots.Post κs a r x → slots.Post κs a r' x' → r ≡ r'
+slots_unique κs a r r' x x' p q = p ∙ sym q
 
-pub remove-unique : (κs : _) (a : _) (r r' : _) (x x' : _) → remove.Post κs a r x → remove.Post κs a r' x' → r ≡ r'
-remove-unique κs a r r' x x' p q = p ∙ sym q
+pub remove_unique : (κs : _) (a : _) (r r' : _) (x x' : _) → remove.Post κs a r x → remove.Post κs a r' x' → r ≡ r'
+remove_unique κs a r r' x x' p q = p ∙ sym q
 
-pub tick-unique : (κs : _) (a : _) (r r' : _) (x x' : _) → tick.Post κs a r x → tick.Post κs a r' x' → r ≡ r'
-tick-unique κs a r r' x x' p q = p ∙ sym q
+pub tick_unique : (κs : _) (a : _) (r r' : _) (x x' : _) → tick.Post κs a r x → tick.Post κs a r' x' → r ≡ r'
+tick_unique κs a r r' x x' p q = p ∙ sym q
 
-pub take-unique : (κs : _) (a : _) (r r' : _) (x x' : _) → take.Post κs a r x → take.Post κs a r' x' → (r ≡ r') × (x.1.0.now ≡ x'.1.0.now)
-take-unique κs a r r' x x' p q = (p.0 ∙ sym q.0, p.1 ∙ sym q.1)
+pub take_unique : (κs : _) (a : _) (r r' : _) (x x' : _) → take.Post κs a r x → take.Post κs a r' x' → (r ≡ r') × (x.1.0.now ≡ x'.1.0.now)
+take_unique κs a r r' x x' p q = (p.0 ∙ sym q.0, p.1 ∙ sym q.1)
 
-pub failed-unique : (κs : _) (a : _) (r r' : _) (x x' : _) → failed.Post κs a r x → failed.Post κs a r' x' → r ≡ r'
-failed-unique κs a r r' x x' p q = p ∙ sym q
+pub failed_unique : (κs : _) (a : _) (r r' : _) (x x' : _) → failed.Post κs a r x → failed.Post κs a r' x' → r ≡ r'
+failed_unique κs a r r' x x' p q = p ∙ sym q
 
-pub failures-unique : (κs : _) (a : _) (r r' : _) (x x' : _) → failures.Post κs a r x → failures.Post κs a r' x' → r ≡ r'
-failures-unique κs a r r' x x' p q = p ∙ sym q
+pub failures_unique : (κs : _) (a : _) (r r' : _) (x x' : _) → failures.Post κs a r x → failures.Post κs a r' x' → r ≡ r'
+failures_unique κs a r r' x x' p q = p ∙ sym q

@@ -2,16 +2,16 @@
 -- function; nothing else is said here.
 use Rattle.std.specs.Prelude.{ℕ, Bool, List, [], ◌∷◌, length}
 use Rattle.codec.specs.declared.time.Time.{Time}
-use Rattle.bus.specs.Report.{canReport, linReport, frameReport, conflictReport, errorReport}
-use Rattle.bus.specs.Update.{canUpdate, linUpdate, flexrayUpdate}
-use Rattle.bus.specs.Filter.{canMask, canRange, linMask, linRange, slots_of}
-use Rattle.mirror.specs.Engine.{discardsOf, failuresOf}
-use Rattle.mirror.specs.Setup.{setupOf, switchOf, offlineOf}
-use Rattle.mirror.specs.Source.{start_of, stopOf, updateOf, addOf, removeOf}
-use Rattle.mirror.specs.Report.{reportOf}
-use Rattle.mirror.specs.Tick.{tickOf}
-use Rattle.mirror.specs.Take.{taken_of, outputOf}
-use Rattle.mirror.specs.Failed.{failedOf}
+use Rattle.bus.specs.Report.{can_report, lin_report, frame_report, conflict_report, error_report}
+use Rattle.bus.specs.Update.{can_update, lin_update, flexray_update}
+use Rattle.bus.specs.Filter.{can_mask, can_range, lin_mask, lin_range, slots_of}
+use Rattle.mirror.specs.Engine.{discards_of, failures_of}
+use Rattle.mirror.specs.Setup.{setup_of, switch_of, offline_of}
+use Rattle.mirror.specs.Source.{start_of, stop_of, update_of, add_of, remove_of}
+use Rattle.mirror.specs.Report.{report_of}
+use Rattle.mirror.specs.Tick.{tick_of}
+use Rattle.mirror.specs.Take.{taken_of, output_of}
+use Rattle.mirror.specs.Failed.{failed_of}
 use Rattle.mirror.specs.declared.engine.Engine.{Engine}
 use Rattle.mirror.specs.declared.engine.Outcome.{Outcome}
 use Rattle.mirror.specs.declared.engine.Timed.{Timed}
@@ -69,33 +69,33 @@ abbrev asked : Engine → Counted → Step
 asked e n = record { engine = e; said = record { answer = n.answer; number = n.count; output = [] } }
 
 abbrev pub step_of : Engine → Call → Step
-step_of e (setup size room deadline pairs) = plain (setupOf e size room deadline pairs)
-step_of e (switch size room deadline) = plain (switchOf e size room deadline)
-step_of e offline = plain (offlineOf e)
+step_of e (setup size room deadline pairs) = plain (setup_of e size room deadline pairs)
+step_of e (switch size room deadline) = plain (switch_of e size room deadline)
+step_of e offline = plain (offline_of e)
 step_of e (start source) = plain (start_of e source)
-step_of e (stop source) = plain (stopOf e source)
-step_of e (can source t key payload) = clocked (reportOf e (canReport source t key) payload)
-step_of e (lin source t pid errors payload) = clocked (reportOf e (linReport source t pid errors) payload)
-step_of e (flexray source t channels slot cycle payload) = clocked (reportOf e (frameReport source t channels slot cycle) payload)
-step_of e (conflict source t channels slot cycle) = clocked (reportOf e (conflictReport source t channels slot cycle) [])
-step_of e (flexray-error source t channels bits) = clocked (reportOf e (errorReport source t channels bits) [])
-step_of e (can-state source online passive busOff counter) = plain (updateOf e (canUpdate source online passive busOff counter))
-step_of e (lin-state source online) = plain (updateOf e (linUpdate source online))
-step_of e (flexray-state source online bits) = plain (updateOf e (flexrayUpdate source online bits))
-step_of e (can-mask source mask code) = numbered (addOf e (canMask source mask code))
-step_of e (can-range source lower upper) = numbered (addOf e (canRange source lower upper))
-step_of e (lin-mask source mask code) = numbered (addOf e (linMask source mask code))
-step_of e (lin-range source lower upper) = numbered (addOf e (linRange source lower upper))
-step_of e (slots source low high lowCycle highCycle repetition) = numbered (addOf e (slots_of source low high lowCycle highCycle repetition))
-step_of e (remove source number) = plain (removeOf e source number)
-step_of e (tick t) = clocked (tickOf e t)
+step_of e (stop source) = plain (stop_of e source)
+step_of e (can source t key payload) = clocked (report_of e (can_report source t key) payload)
+step_of e (lin source t pid errors payload) = clocked (report_of e (lin_report source t pid errors) payload)
+step_of e (flexray source t channels slot cycle payload) = clocked (report_of e (frame_report source t channels slot cycle) payload)
+step_of e (conflict source t channels slot cycle) = clocked (report_of e (conflict_report source t channels slot cycle) [])
+step_of e (flexray-error source t channels bits) = clocked (report_of e (error_report source t channels bits) [])
+step_of e (can-state source online passive busOff counter) = plain (update_of e (can_update source online passive busOff counter))
+step_of e (lin-state source online) = plain (update_of e (lin_update source online))
+step_of e (flexray-state source online bits) = plain (update_of e (flexray_update source online bits))
+step_of e (can-mask source mask code) = numbered (add_of e (can_mask source mask code))
+step_of e (can-range source lower upper) = numbered (add_of e (can_range source lower upper))
+step_of e (lin-mask source mask code) = numbered (add_of e (lin_mask source mask code))
+step_of e (lin-range source lower upper) = numbered (add_of e (lin_range source lower upper))
+step_of e (slots source low high lowCycle highCycle repetition) = numbered (add_of e (slots_of source low high lowCycle highCycle repetition))
+step_of e (remove source number) = plain (remove_of e source number)
+step_of e (tick t) = clocked (tick_of e t)
 step_of e (take out) = record {
   engine = (taken_of e (length out)).engine;
-  said = record { answer = (taken_of e (length out)).answer; number = (taken_of e (length out)).length; output = outputOf e out };
+  said = record { answer = (taken_of e (length out)).answer; number = (taken_of e (length out)).length; output = output_of e out };
 }
-step_of e failed = plain (failedOf e)
-step_of e discards = asked e (discardsOf e)
-step_of e failures = asked e (failuresOf e)
+step_of e failed = plain (failed_of e)
+step_of e discards = asked e (discards_of e)
+step_of e failures = asked e (failures_of e)
 
 -- the engine after a list of calls, and what they say, one after the other
 abbrev pub run_of : Engine → List Call → Engine

@@ -1,46 +1,46 @@
 -- Calls that change one source alone (docs/RULES.md, "Filters", rule 4).
 use Rattle.std.specs.Prelude.{ℕ, set, eqb}
 use Rattle.codec.specs.Choice.{pick}
-use Rattle.bus.specs.Source.{startedSource, stoppedSource, freeAt, addCause, addedFilter, removeCause, removedFilter}
-use Rattle.bus.specs.Update.{updateCause, updated}
+use Rattle.bus.specs.Source.{started_source, stopped_source, free_at, add_cause, added_filter, remove_cause, removed_filter}
+use Rattle.bus.specs.Update.{update_cause, updated}
 use Rattle.bus.specs.declared.source.Source.{Source}
 use Rattle.bus.specs.declared.filter.Addition.{Addition}
 use Rattle.bus.specs.declared.update.Update.{Update}
-use Rattle.mirror.specs.Engine.{causeOf, answered, sourceCause, sourceAt, withSource}
+use Rattle.mirror.specs.Engine.{cause_of, answered, source_cause, source_at, with_source}
 use Rattle.mirror.specs.declared.engine.Engine.{Engine}
 use Rattle.mirror.specs.declared.engine.Outcome.{Outcome}
 use Rattle.mirror.specs.declared.source.Added.{Added}
 
 -- another record in the place of a source, unless there is a cause against it
-unfoldable pub storedOf : Engine → ℕ → Source → ℕ → Outcome
-storedOf e k s cause = answered e cause (record { count = e.count; sources = set e.sources k s; framer = e.framer })
+unfoldable pub stored_of : Engine → ℕ → Source → ℕ → Outcome
+stored_of e k s cause = answered e cause (record { count = e.count; sources = set e.sources k s; framer = e.framer })
 
 -- start and stop: 19, 2
 unfoldable pub start_of : Engine → ℕ → Outcome
 start_of e source =
-    answered e (causeOf e (sourceCause e source 0)) (withSource e source (startedSource (sourceAt e source)) e.framer)
+    answered e (cause_of e (source_cause e source 0)) (with_source e source (started_source (source_at e source)) e.framer)
 
-unfoldable pub stopOf : Engine → ℕ → Outcome
-stopOf e source =
-    answered e (causeOf e (sourceCause e source 0)) (withSource e source (stoppedSource (sourceAt e source)) e.framer)
+unfoldable pub stop_of : Engine → ℕ → Outcome
+stop_of e source =
+    answered e (cause_of e (source_cause e source 0)) (with_source e source (stopped_source (source_at e source)) e.framer)
 
 -- state updates: 19, 2, 4, 3, 5
-unfoldable pub updateOf : Engine → Update → Outcome
-updateOf e u =
-    answered e (causeOf e (updateCause e.count (sourceAt e u.source) u))
-    (withSource e u.source (updated (sourceAt e u.source) u) e.framer)
+unfoldable pub update_of : Engine → Update → Outcome
+update_of e u =
+    answered e (cause_of e (update_cause e.count (source_at e u.source) u))
+    (with_source e u.source (updated (source_at e u.source) u) e.framer)
 
 -- filter adding: 19, 2, 4, 9, 10; the lowest free place is the filter's number
-unfoldable pub addOf : Engine → Addition → Added
-addOf e a =
-    let s = sourceAt e a.source in
-    let cause = causeOf e (addCause e.count s a) in
+unfoldable pub add_of : Engine → Addition → Added
+add_of e a =
+    let s = source_at e a.source in
+    let cause = cause_of e (add_cause e.count s a) in
     pick (eqb cause 0)
-    (record { engine = withSource e a.source (addedFilter s a.filter) e.framer; answer = 0; number = freeAt s.places })
+    (record { engine = with_source e a.source (added_filter s a.filter) e.framer; answer = 0; number = free_at s.places })
     (record { engine = e; answer = cause; number = 0 })
 
 -- removing: 19, 2, 11
-unfoldable pub removeOf : Engine → ℕ → ℕ → Outcome
-removeOf e source number =
-    answered e (causeOf e (sourceCause e source (removeCause (sourceAt e source) number)))
-    (withSource e source (removedFilter (sourceAt e source) number) e.framer)
+unfoldable pub remove_of : Engine → ℕ → ℕ → Outcome
+remove_of e source number =
+    answered e (cause_of e (source_cause e source (remove_cause (source_at e source) number)))
+    (with_source e source (removed_filter (source_at e source) number) e.framer)

@@ -1,7 +1,7 @@
 -- The rows P1 to P9 (docs/RULES.md, "Worked examples"), and the table of all. One statement about the definitions holds of the whole
 -- table.
 use Rattle.std.specs.Prelude.{ℕ, ◌≡◌, true, false, List, [], ◌∷◌}
-use Rattle.mirror.specs.Engine.{freshEngine}
+use Rattle.mirror.specs.Engine.{fresh_engine}
 use Rattle.mirror.specs.Call.{said_of}
 use Rattle.mirror.specs.Call.{setup, start, can, lin, flexray, can-state, can-range, lin-range, slots, tick, take, discards}
 use Rattle.mirror.specs.Row.{Row, at, room, ok, number, refused, taken}
@@ -10,8 +10,8 @@ use Rattle.mirror.specs.LaterVectors.{p10, p11, p12, p13}
 -- P1: F 64, Q 1, D 1, one CAN source, id 5, started, a filter matching all. At 16 s, standard id 0x123, payload 01 02.
 -- Update: online, counter 0. At 16 s + 20,833 ns, extended FD id 0x01ABCDEF, payload AA. Tick at 16 s + 999,999 ns: nothing
 -- (a take says 13). Tick at 16 s + 1,000,000 ns, then take, 36 bytes; the four bytes of output behind them stay
-abbrev p1-frame : List ℕ
-p1-frame =
+abbrev p1_frame : List ℕ
+p1_frame =
     0x01 ∷ 0x00 ∷ 0x00 ∷ 0x00 ∷ 0x00 ∷ 0x00 ∷ 0x00 ∷ 0x10 ∷ 0x00 ∷ 0x00 ∷ 0x00 ∷ 0x00 ∷ 0x00 ∷ 0x16
     ∷ 0x00 ∷ 0x00 ∷ 0x61 ∷ 0x05 ∷ 0x00 ∷ 0x00 ∷ 0x01 ∷ 0x23 ∷ 0x02 ∷ 0x01 ∷ 0x02
     ∷ 0x00 ∷ 0x02 ∷ 0xe1 ∷ 0x05 ∷ 0x40 ∷ 0xc1 ∷ 0xab ∷ 0xcd ∷ 0xef ∷ 0x01 ∷ 0xaa
@@ -37,13 +37,13 @@ p1 = record {
       ∷ ok
       ∷ record { answer = 13; number = 0; output = room 40 }
       ∷ ok
-      ∷ taken p1-frame 4
+      ∷ taken p1_frame 4
       ∷ [];
 }
 
 -- P2: difference 9,999 gives 0; 10,000 gives 1 (nanoseconds after the header time; the offset is an item's first two bytes)
-abbrev p2-frame : List ℕ
-p2-frame =
+abbrev p2_frame : List ℕ
+p2_frame =
     0x01 ∷ 0x00 ∷ 0x00 ∷ 0x00 ∷ 0x00 ∷ 0x00 ∷ 0x00 ∷ 0x01 ∷ 0x00 ∷ 0x00 ∷ 0x00 ∷ 0x00 ∷ 0x00 ∷ 0x1e
     ∷ 0x00 ∷ 0x00 ∷ 0x61 ∷ 0x05 ∷ 0x00 ∷ 0x00 ∷ 0x01 ∷ 0x23 ∷ 0x01 ∷ 0x01
     ∷ 0x00 ∷ 0x00 ∷ 0x61 ∷ 0x05 ∷ 0x00 ∷ 0x00 ∷ 0x01 ∷ 0x23 ∷ 0x01 ∷ 0x02
@@ -66,7 +66,7 @@ p2 = record {
       ∷ ok
       ∷ ok
       ∷ ok
-      ∷ taken p2-frame 0
+      ∷ taken p2_frame 0
       ∷ [];
 }
 
@@ -78,8 +78,8 @@ p3-first =
     ∷ 0xff ∷ 0xff ∷ 0x61 ∷ 0x05 ∷ 0x00 ∷ 0x00 ∷ 0x01 ∷ 0x23 ∷ 0x01 ∷ 0x02
     ∷ []
 
-abbrev p3-second : List ℕ
-p3-second =
+abbrev p3_second : List ℕ
+p3_second =
     0x01 ∷ 0x01 ∷ 0x00 ∷ 0x00 ∷ 0x00 ∷ 0x00 ∷ 0x00 ∷ 0x01 ∷ 0x27 ∷ 0x10 ∷ 0x00 ∷ 0x00 ∷ 0x00 ∷ 0x0a
     ∷ 0x00 ∷ 0x00 ∷ 0x61 ∷ 0x05 ∷ 0x00 ∷ 0x00 ∷ 0x01 ∷ 0x23 ∷ 0x01 ∷ 0x03
     ∷ []
@@ -102,13 +102,13 @@ p3 = record {
       ∷ ok
       ∷ ok
       ∷ taken p3-first 0
-      ∷ taken p3-second 0
+      ∷ taken p3_second 0
       ∷ [];
 }
 
 -- P4: from 9 s 999,999,000 ns to 10 s 9,000 ns: 1
-abbrev p4-frame : List ℕ
-p4-frame =
+abbrev p4_frame : List ℕ
+p4_frame =
     0x01 ∷ 0x00 ∷ 0x00 ∷ 0x00 ∷ 0x00 ∷ 0x00 ∷ 0x00 ∷ 0x09 ∷ 0x3b ∷ 0x9a ∷ 0xc6 ∷ 0x18 ∷ 0x00 ∷ 0x14
     ∷ 0x00 ∷ 0x00 ∷ 0x61 ∷ 0x05 ∷ 0x00 ∷ 0x00 ∷ 0x01 ∷ 0x23 ∷ 0x01 ∷ 0x01
     ∷ 0x00 ∷ 0x01 ∷ 0x61 ∷ 0x05 ∷ 0x00 ∷ 0x00 ∷ 0x01 ∷ 0x23 ∷ 0x01 ∷ 0x02
@@ -128,7 +128,7 @@ p4 = record {
       ∷ ok
       ∷ ok
       ∷ ok
-      ∷ taken p4-frame 0
+      ∷ taken p4_frame 0
       ∷ [];
 }
 
@@ -139,8 +139,8 @@ p5-first =
     ∷ 0x00 ∷ 0x00 ∷ 0x61 ∷ 0x05 ∷ 0x00 ∷ 0x00 ∷ 0x01 ∷ 0x23 ∷ 0x01 ∷ 0x01
     ∷ []
 
-abbrev p5-second : List ℕ
-p5-second =
+abbrev p5_second : List ℕ
+p5_second =
     0x01 ∷ 0x01 ∷ 0x00 ∷ 0x00 ∷ 0x00 ∷ 0x00 ∷ 0x00 ∷ 0x01 ∷ 0x3b ∷ 0x9a ∷ 0xc9 ∷ 0xff ∷ 0x00 ∷ 0x0a
     ∷ 0x00 ∷ 0x00 ∷ 0x61 ∷ 0x05 ∷ 0x00 ∷ 0x00 ∷ 0x01 ∷ 0x23 ∷ 0x01 ∷ 0x02
     ∷ []
@@ -161,13 +161,13 @@ p5 = record {
       ∷ number 1
       ∷ ok
       ∷ taken p5-first 0
-      ∷ taken p5-second 0
+      ∷ taken p5_second 0
       ∷ [];
 }
 
 -- P6: F 32: CAN 2.0 with 8 bytes enters; CAN FD with 9 answers 8
-abbrev p6-frame : List ℕ
-p6-frame =
+abbrev p6_frame : List ℕ
+p6_frame =
     0x01 ∷ 0x00 ∷ 0x00 ∷ 0x00 ∷ 0x00 ∷ 0x00 ∷ 0x00 ∷ 0x01 ∷ 0x00 ∷ 0x00 ∷ 0x00 ∷ 0x00 ∷ 0x00 ∷ 0x11
     ∷ 0x00 ∷ 0x00 ∷ 0x61 ∷ 0x05 ∷ 0x00 ∷ 0x00 ∷ 0x01 ∷ 0x23 ∷ 0x08 ∷ 0x01 ∷ 0x02 ∷ 0x03 ∷ 0x04 ∷ 0x05 ∷ 0x06 ∷ 0x07 ∷ 0x08
     ∷ []
@@ -186,13 +186,13 @@ p6 = record {
       ∷ ok
       ∷ refused 8
       ∷ ok
-      ∷ taken p6-frame 0
+      ∷ taken p6_frame 0
       ∷ [];
 }
 
 -- P7: both channels, slot 1,027, cycle 63: CC 03 3F
-abbrev p7-frame : List ℕ
-p7-frame =
+abbrev p7_frame : List ℕ
+p7_frame =
     0x01 ∷ 0x00 ∷ 0x00 ∷ 0x00 ∷ 0x00 ∷ 0x00 ∷ 0x00 ∷ 0x01 ∷ 0x00 ∷ 0x00 ∷ 0x00 ∷ 0x00 ∷ 0x00 ∷ 0x09
     ∷ 0x00 ∷ 0x00 ∷ 0x63 ∷ 0x07 ∷ 0xcc ∷ 0x03 ∷ 0x3f ∷ 0x01 ∷ 0xaa
     ∷ []
@@ -209,14 +209,14 @@ p7 = record {
       ok ∷ ok ∷ number 0
       ∷ ok
       ∷ ok
-      ∷ taken p7-frame 0
+      ∷ taken p7_frame 0
       ∷ [];
 }
 
 -- P8: PID 0x7D has key 61: it passes a filter of 61 alone and not one of 60 alone. Counters 127, 128 and 255 all give 15; 7
 -- gives 0: the low four bits of the state bytes 4F and 40, each shown by a tick because it differs from the one before
-abbrev p8-frame : List ℕ
-p8-frame =
+abbrev p8_frame : List ℕ
+p8_frame =
     0x01 ∷ 0x00 ∷ 0x00 ∷ 0x00 ∷ 0x00 ∷ 0x00 ∷ 0x00 ∷ 0x01 ∷ 0x00 ∷ 0x00 ∷ 0x00 ∷ 0x00 ∷ 0x00 ∷ 0x21
     ∷ 0x00 ∷ 0x00 ∷ 0xe2 ∷ 0x01 ∷ 0x00 ∷ 0x7d ∷ 0x01 ∷ 0xaa
     ∷ 0x00 ∷ 0x00 ∷ 0x81 ∷ 0x05 ∷ 0x4f
@@ -254,7 +254,7 @@ p8 = record {
       ∷ ok ∷ ok
       ∷ ok ∷ ok
       ∷ ok
-      ∷ taken p8-frame 0
+      ∷ taken p8_frame 0
       ∷ [];
 }
 
@@ -266,8 +266,8 @@ p9-first =
     ∷ 0x00 ∷ 0x00 ∷ 0x61 ∷ 0x05 ∷ 0x00 ∷ 0x00 ∷ 0x01 ∷ 0x23 ∷ 0x01 ∷ 0x01
     ∷ []
 
-abbrev p9-third : List ℕ
-p9-third =
+abbrev p9_third : List ℕ
+p9_third =
     0x01 ∷ 0x02 ∷ 0x00 ∷ 0x00 ∷ 0x00 ∷ 0x00 ∷ 0x00 ∷ 0x03 ∷ 0x00 ∷ 0x00 ∷ 0x00 ∷ 0x00 ∷ 0x00 ∷ 0x0b
     ∷ 0x00 ∷ 0x00 ∷ 0xe1 ∷ 0x05 ∷ 0x80 ∷ 0x00 ∷ 0x00 ∷ 0x01 ∷ 0x23 ∷ 0x01 ∷ 0x03
     ∷ []
@@ -298,7 +298,7 @@ p9 = record {
       ∷ ok
       ∷ taken p9-first 0
       ∷ ok
-      ∷ taken p9-third 0
+      ∷ taken p9_third 0
       ∷ [];
 }
 
@@ -308,4 +308,4 @@ table = p1 ∷ p2 ∷ p3 ∷ p4 ∷ p5 ∷ p6 ∷ p7 ∷ p8 ∷ p9 ∷ p10 ∷ p
 -- what the calls of every row say is what stands beside them
 abbrev pub Holds : List Row → Type 0
 Holds [] = Unit
-Holds (r ∷ rs) = (said_of freshEngine r.calls ≡ r.said) × Holds rs
+Holds (r ∷ rs) = (said_of fresh_engine r.calls ≡ r.said) × Holds rs

@@ -1,8 +1,8 @@
 // The engine, by value: its sources, and the framer that mirrors what they hand over.
 ghost use Rattle.std.specs.Prelude.{◌≡◌, ◌&&◌, leb};
 ghost use Rattle.codec.specs.Number.{Below};
-ghost use Rattle.framer.specs.Meter.{soundMeter};
-ghost use Rattle.mirror.specs.Engine.{noSources, freshEngine, index_of, asked_of, discardsOf, failuresOf};
+ghost use Rattle.framer.specs.Meter.{sound_meter};
+ghost use Rattle.mirror.specs.Engine.{no_sources, fresh_engine, index_of, asked_of, discards_of, failures_of};
 
 use bus::source::Source;
 use codec::ident::Kind;
@@ -42,7 +42,7 @@ pub struct Counted {
 }
 
 pub(crate) fn no_sources() -> [Source; 8]
-    ensures { result ≡ noSources }
+    ensures { result ≡ no_sources }
 {
     let none = bus::source::fresh(Kind::Can, 0);
     [none; 8]
@@ -50,7 +50,7 @@ pub(crate) fn no_sources() -> [Source; 8]
 
 // Before setup there are no sources; the limits are the least, and nothing can reach them.
 pub fn fresh() -> Engine
-    ensures { result ≡ freshEngine }
+    ensures { result ≡ fresh_engine }
 {
     Engine {
         count: 0,
@@ -61,7 +61,7 @@ pub fn fresh() -> Engine
 
 // The one soundness rule: it looks at counters alone.
 pub(crate) fn sound(count: usize, m: Meter) -> bool
-    ensures { result ≡ (leb count 8 && soundMeter m) }
+    ensures { result ≡ (leb count 8 && sound_meter m) }
 {
     (count <= 8) & framer::meter::sound(m)
 }
@@ -91,14 +91,14 @@ impl Engine {
     }
 
     pub fn discards(self) -> Counted
-        ensures { result ≡ discardsOf self }
+        ensures { result ≡ discards_of self }
     {
         let m = self.framer.meter;
         self.asked(m.discards)
     }
 
     pub fn failures(self) -> Counted
-        ensures { result ≡ failuresOf self }
+        ensures { result ≡ failures_of self }
     {
         let m = self.framer.meter;
         self.asked(m.failures)

@@ -1,12 +1,12 @@
 // The sender says that the frame last taken was not sent: 17.
 ghost use Rattle.std.specs.Prelude.{◌≡◌};
-ghost use Rattle.mirror.specs.Failed.{failedOf};
+ghost use Rattle.mirror.specs.Failed.{failed_of};
 
 use crate::engine::{Engine, Outcome};
 
 impl Engine {
     pub fn failed(mut self) -> Outcome
-        ensures { result ≡ failedOf self }
+        ensures { result ≡ failed_of self }
     {
         let m = self.framer.meter;
         if !crate::engine::sound(self.count, m) {

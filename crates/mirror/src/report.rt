@@ -1,7 +1,7 @@
 // Reports: 7, 2, 4, 3, 5, 6, 1, 8.
 ghost use Rattle.std.specs.Prelude.{◌≡◌, []};
-ghost use Rattle.bus.specs.Report.{canReport, linReport, frameReport, conflictReport, errorReport};
-ghost use Rattle.mirror.specs.Report.{reportOf};
+ghost use Rattle.bus.specs.Report.{can_report, lin_report, frame_report, conflict_report, error_report};
+ghost use Rattle.mirror.specs.Report.{report_of};
 
 use crate::engine::{Engine, Timed};
 use bus::report::Report;
@@ -9,7 +9,7 @@ use codec::time::{Nanos, Time};
 
 impl Engine {
     fn report(mut self, r: Report, payload: &[u8]) -> Timed
-        ensures { result ≡ reportOf self r payload.now }
+        ensures { result ≡ report_of self r payload.now }
     {
         let m = self.framer.meter;
         if !crate::engine::sound(self.count, m) {
@@ -40,13 +40,13 @@ impl Engine {
     }
 
     pub fn can(self, source: u64, time: Time, key: u32, payload: &[u8]) -> Timed
-        ensures { result ≡ reportOf self (canReport source time key) payload.now }
+        ensures { result ≡ report_of self (can_report source time key) payload.now }
     {
         self.report(bus::report::can(source, time, key), payload)
     }
 
     pub fn lin(self, source: u64, time: Time, pid: u32, errors: u32, payload: &[u8]) -> Timed
-        ensures { result ≡ reportOf self (linReport source time pid errors) payload.now }
+        ensures { result ≡ report_of self (lin_report source time pid errors) payload.now }
     {
         self.report(bus::report::lin(source, time, pid, errors), payload)
     }
@@ -60,7 +60,7 @@ impl Engine {
         cycle: u32,
         payload: &[u8],
     ) -> Timed
-        ensures { result ≡ reportOf self (frameReport source time channels slot cycle) payload.now }
+        ensures { result ≡ report_of self (frame_report source time channels slot cycle) payload.now }
     {
         self.report(
             bus::report::flexray(source, time, channels, slot, cycle),
@@ -69,7 +69,7 @@ impl Engine {
     }
 
     pub fn conflict(self, source: u64, time: Time, channels: u32, slot: u32, cycle: u32) -> Timed
-        ensures { result ≡ reportOf self (conflictReport source time channels slot cycle) [] }
+        ensures { result ≡ report_of self (conflict_report source time channels slot cycle) [] }
     {
         self.report(
             bus::report::conflict(source, time, channels, slot, cycle),
@@ -78,7 +78,7 @@ impl Engine {
     }
 
     pub fn flexray_error(self, source: u64, time: Time, channels: u32, bits: u32) -> Timed
-        ensures { result ≡ reportOf self (errorReport source time channels bits) [] }
+        ensures { result ≡ report_of self (error_report source time channels bits) [] }
     {
         self.report(bus::report::error(source, time, channels, bits), b"")
     }

@@ -1,7 +1,7 @@
 // Setup, switch and offline.
 ghost use Rattle.std.specs.Prelude.{◌≡◌, map, ◌≤◌, length, drop};
-ghost use Rattle.bus.specs.Source.{resetSource};
-ghost use Rattle.mirror.specs.Setup.{kindNumbered, sourceNumbered, pairOk, namedAgain, pairsOk, sourcesOk, named, resetOf, setupOf, switchOf, offlineOf};
+ghost use Rattle.bus.specs.Source.{reset_source};
+ghost use Rattle.mirror.specs.Setup.{kind_numbered, source_numbered, pair_ok, named_again, pairs_ok, sources_ok, named, reset_of, setup_of, switch_of, offline_of};
 
 use crate::engine::{Engine, Outcome};
 use bus::source::Source;
@@ -10,7 +10,7 @@ use codec::time::Millis;
 
 // Network type 1, 2 or 3; the caller has refused every other.
 fn kind_numbered(n: u32) -> Kind
-    ensures { result ≡ kindNumbered n }
+    ensures { result ≡ kind_numbered n }
 {
     if n == 1 {
         return Kind::Can;
@@ -22,13 +22,13 @@ fn kind_numbered(n: u32) -> Kind
 }
 
 fn source_numbered(kind: u32, id: u32) -> Source
-    ensures { result ≡ sourceNumbered kind id }
+    ensures { result ≡ source_numbered kind id }
 {
     bus::source::fresh(kind_numbered(kind), codec::number::low8(id as u64))
 }
 
 fn pair_ok(kind: u32, id: u32) -> bool
-    ensures { result ≡ pairOk kind id }
+    ensures { result ≡ pair_ok kind id }
 {
     (1 <= kind) & (kind <= 3) & (id <= 255)
 }
@@ -37,7 +37,7 @@ fn pair_ok(kind: u32, id: u32) -> bool
 fn named_again(pairs: &[u32], i: usize, kind: u32, id: u32) -> bool
     requires pairs_len_bound { length pairs.now ≤ 16 }
     requires i_in_bounds { i ≤ length pairs.now }
-    ensures { result ≡ namedAgain kind id (drop i pairs.now) }
+    ensures { result ≡ named_again kind id (drop i pairs.now) }
 {
     let n = pairs.len();
     let mut j = i;
@@ -53,7 +53,7 @@ fn named_again(pairs: &[u32], i: usize, kind: u32, id: u32) -> bool
 // Every pair is in range and names what no later pair names.
 fn pairs_ok(pairs: &[u32]) -> bool
     requires { length pairs.now ≤ 16 }
-    ensures { result ≡ pairsOk pairs.now }
+    ensures { result ≡ pairs_ok pairs.now }
 {
     let n = pairs.len();
     let mut i: usize = 0;
@@ -73,7 +73,7 @@ fn pairs_ok(pairs: &[u32]) -> bool
 
 // One to eight pairs.
 fn sources_ok(pairs: &[u32]) -> bool
-    ensures { result ≡ sourcesOk pairs.now }
+    ensures { result ≡ sources_ok pairs.now }
 {
     let n = pairs.len();
     if 16 < n {
@@ -104,7 +104,7 @@ fn named(pairs: &[u32], none: [Source; 8]) -> [Source; 8]
 
 // Every source as after setup.
 fn reset_all(before: [Source; 8]) -> [Source; 8]
-    ensures { result ≡ map resetSource before }
+    ensures { result ≡ map reset_source before }
 {
     let mut after = before;
     let mut k: usize = 0;
@@ -119,7 +119,7 @@ fn reset_all(before: [Source; 8]) -> [Source; 8]
 impl Engine {
     // 14
     pub fn setup(mut self, size: u64, room: u64, deadline: u64, pairs: &[u32]) -> Outcome
-        ensures { result ≡ setupOf self size room deadline pairs.now }
+        ensures { result ≡ setup_of self size room deadline pairs.now }
     {
         let m = self.framer.meter;
         if !crate::engine::sound(self.count, m) {
@@ -146,7 +146,7 @@ impl Engine {
     }
 
     fn reset(mut self, size: usize, room: usize, deadline: Millis) -> Engine
-        ensures { result ≡ resetOf self size room deadline }
+        ensures { result ≡ reset_of self size room deadline }
     {
         let before = self.sources;
         let after = reset_all(before);
@@ -157,7 +157,7 @@ impl Engine {
 
     // 14
     pub fn switch(self, size: u64, room: u64, deadline: u64) -> Outcome
-        ensures { result ≡ switchOf self size room deadline }
+        ensures { result ≡ switch_of self size room deadline }
     {
         let m = self.framer.meter;
         if !crate::engine::sound(self.count, m) {
@@ -180,7 +180,7 @@ impl Engine {
     }
 
     pub fn offline(self) -> Outcome
-        ensures { result ≡ offlineOf self }
+        ensures { result ≡ offline_of self }
     {
         let m = self.framer.meter;
         if !crate::engine::sound(self.count, m) {

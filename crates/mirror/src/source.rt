@@ -1,9 +1,9 @@
 // Calls that change one source alone: starting and stopping, state updates, filters.
 ghost use Rattle.std.specs.Prelude.{◌≡◌, ◌<◌};
-ghost use Rattle.bus.specs.Update.{canUpdate, linUpdate, flexrayUpdate};
-ghost use Rattle.bus.specs.Filter.{canMask, canRange, linMask, linRange, slots_of};
-ghost use Rattle.mirror.specs.Engine.{causeOf, sourceCause};
-ghost use Rattle.mirror.specs.Source.{storedOf, start_of, stopOf, updateOf, addOf, removeOf};
+ghost use Rattle.bus.specs.Update.{can_update, lin_update, flexray_update};
+ghost use Rattle.bus.specs.Filter.{can_mask, can_range, lin_mask, lin_range, slots_of};
+ghost use Rattle.mirror.specs.Engine.{cause_of, source_cause};
+ghost use Rattle.mirror.specs.Source.{stored_of, start_of, stop_of, update_of, add_of, remove_of};
 
 use crate::engine::{Engine, Outcome};
 use bus::filter::Addition;
@@ -22,7 +22,7 @@ impl Engine {
     // The engine with another record in the place of a source, if nothing speaks against it.
     fn store(mut self, k: usize, s: Source, cause: u8) -> Outcome
         requires { k < 8 }
-        ensures { result ≡ storedOf self k s cause }
+        ensures { result ≡ stored_of self k s cause }
     {
         if cause != 0 {
             return Outcome {
@@ -38,7 +38,7 @@ impl Engine {
     }
 
     fn known(self, source: u64, rest: u8) -> u8
-        ensures { result ≡ causeOf self (sourceCause self source rest) }
+        ensures { result ≡ cause_of self (source_cause self source rest) }
     {
         let m = self.framer.meter;
         let cause = bus::source::first(self.count as u64 <= source, 2, rest);
@@ -55,7 +55,7 @@ impl Engine {
     }
 
     pub fn stop(self, source: u64) -> Outcome
-        ensures { result ≡ stopOf self source }
+        ensures { result ≡ stop_of self source }
     {
         let k = crate::engine::index(source);
         let s = self.sources[k];
@@ -65,7 +65,7 @@ impl Engine {
 
     // 2, 4, 3, 5
     fn update(self, u: Update) -> Outcome
-        ensures { result ≡ updateOf self u }
+        ensures { result ≡ update_of self u }
     {
         let m = self.framer.meter;
         let k = crate::engine::index(u.source);
@@ -83,26 +83,26 @@ impl Engine {
         bus_off: bool,
         counter: u32,
     ) -> Outcome
-        ensures { result ≡ updateOf self (canUpdate source online passive bus_off counter) }
+        ensures { result ≡ update_of self (can_update source online passive bus_off counter) }
     {
         self.update(bus::update::can(source, online, passive, bus_off, counter))
     }
 
     pub fn lin_state(self, source: u64, online: bool) -> Outcome
-        ensures { result ≡ updateOf self (linUpdate source online) }
+        ensures { result ≡ update_of self (lin_update source online) }
     {
         self.update(bus::update::lin(source, online))
     }
 
     pub fn flexray_state(self, source: u64, online: bool, bits: u32) -> Outcome
-        ensures { result ≡ updateOf self (flexrayUpdate source online bits) }
+        ensures { result ≡ update_of self (flexray_update source online bits) }
     {
         self.update(bus::update::flexray(source, online, bits))
     }
 
     // 2, 4, 9, 10
     fn add(mut self, a: Addition) -> Added
-        ensures { result ≡ addOf self a }
+        ensures { result ≡ add_of self a }
     {
         let m = self.framer.meter;
         let k = crate::engine::index(a.source);
@@ -126,25 +126,25 @@ impl Engine {
     }
 
     pub fn can_mask(self, source: u64, mask: u32, code: u32) -> Added
-        ensures { result ≡ addOf self (canMask source mask code) }
+        ensures { result ≡ add_of self (can_mask source mask code) }
     {
         self.add(bus::filter::can_mask(source, mask, code))
     }
 
     pub fn can_range(self, source: u64, lower: u32, upper: u32) -> Added
-        ensures { result ≡ addOf self (canRange source lower upper) }
+        ensures { result ≡ add_of self (can_range source lower upper) }
     {
         self.add(bus::filter::can_range(source, lower, upper))
     }
 
     pub fn lin_mask(self, source: u64, mask: u32, code: u32) -> Added
-        ensures { result ≡ addOf self (linMask source mask code) }
+        ensures { result ≡ add_of self (lin_mask source mask code) }
     {
         self.add(bus::filter::lin_mask(source, mask, code))
     }
 
     pub fn lin_range(self, source: u64, lower: u32, upper: u32) -> Added
-        ensures { result ≡ addOf self (linRange source lower upper) }
+        ensures { result ≡ add_of self (lin_range source lower upper) }
     {
         self.add(bus::filter::lin_range(source, lower, upper))
     }
@@ -158,14 +158,14 @@ impl Engine {
         high_cycle: u32,
         repetition: u32,
     ) -> Added
-        ensures { result ≡ addOf self (slots_of source low high low_cycle high_cycle repetition) }
+        ensures { result ≡ add_of self (slots_of source low high low_cycle high_cycle repetition) }
     {
         self.add(bus::filter::slots(source, low, high, low_cycle, high_cycle, repetition))
     }
 
     // 2, 11
     pub fn remove(self, source: u64, number: u64) -> Outcome
-        ensures { result ≡ removeOf self source number }
+        ensures { result ≡ remove_of self source number }
     {
         let k = crate::engine::index(source);
         let s = self.sources[k];

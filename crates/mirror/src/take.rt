@@ -1,6 +1,6 @@
 // Taking the oldest waiting frame: 13, 12.
 ghost use Rattle.std.specs.Prelude.{◌≡◌, length};
-ghost use Rattle.mirror.specs.Take.{taken_of, outputOf};
+ghost use Rattle.mirror.specs.Take.{taken_of, output_of};
 
 use crate::engine::Engine;
 
@@ -15,7 +15,7 @@ pub struct Taken {
 impl Engine {
     pub fn take(mut self, out: &mut [u8]) -> Taken
         ensures value { result ≡ taken_of self (length out.old) }
-        ensures out_after { out.new ≡ outputOf self out.old }
+        ensures out_after { out.new ≡ output_of self out.old }
     {
         let m = self.framer.meter;
         if !crate::engine::sound(self.count, m) {

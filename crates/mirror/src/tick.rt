@@ -1,6 +1,6 @@
 // A tick: 7; then a state-only item for each source that is due, and the deadline.
 ghost use Rattle.std.specs.Prelude.{◌≡◌, ◌<◌, ◌≤◌};
-ghost use Rattle.mirror.specs.Tick.{tickSource, statesOf, tickOf};
+ghost use Rattle.mirror.specs.Tick.{tick_source, states_of, tick_of};
 
 use crate::engine::{Engine, Timed};
 use codec::time::{Nanos, Time};
@@ -8,7 +8,7 @@ use codec::time::{Nanos, Time};
 impl Engine {
     fn tick_source(mut self, k: usize, t: Time) -> Engine
         requires { k < 8 }
-        ensures { result ≡ tickSource self k t }
+        ensures { result ≡ tick_source self k t }
     {
         let s = self.sources[k];
         self.sources[k] = s.calm();
@@ -23,7 +23,7 @@ impl Engine {
     // In order of source number.
     fn states(self, t: Time) -> Engine
         requires { self.count ≤ 8 }
-        ensures { result ≡ statesOf self.count 0 self t }
+        ensures { result ≡ states_of self.count 0 self t }
     {
         let n = self.count;
         let mut e = self;
@@ -36,7 +36,7 @@ impl Engine {
     }
 
     pub fn tick(self, t: Time) -> Timed
-        ensures { result ≡ tickOf self t }
+        ensures { result ≡ tick_of self t }
     {
         let m = self.framer.meter;
         if !crate::engine::sound(self.count, m) {

@@ -8,11 +8,11 @@ use lib.ListN.{length, length-append}
 use lib.Seq.{paste-zero}
 use lib.Dec.{ltb}
 use borrow.Author.Tests.{ltb-true, ltb-false, lt-leb, le-leb}
-use Rattle.codec.specs.Time.{timeOk}
+use Rattle.codec.specs.Time.{time_ok}
 use Rattle.codec.specs.Number.{Bytes, over, Wrote}
-use Rattle.codec.specs.Item.{encode, itemOk}
-use Rattle.codec.specs.Field.{readItem, bytes_at}
-use Rattle.codec.specs.Header.{readHeader, headerBytes}
+use Rattle.codec.specs.Item.{encode, item_ok}
+use Rattle.codec.specs.Field.{read_item, bytes_at}
+use Rattle.codec.specs.Header.{read_header, header_bytes}
 use Rattle.codec.specs.Layout.{body, layout}
 use Rattle.codec.specs.declared.item.Item.{Item}
 use Rattle.codec.specs.declared.refusal.Refusal.{Refusal}
@@ -23,40 +23,40 @@ use Rattle.codec.specs.declared.header.HeaderRead.TheVariants as HeaderRead
 use Rattle.codec.specs.declared.field.ItemRead.{ItemRead}
 use Rattle.codec.specs.declared.field.ItemRead.TheVariants as ItemRead
 use Rattle.codec.proofs.NumberLaws.{over-over, kept, length_over}
-use Rattle.codec.proofs.HeaderLaws.{header-length}
+use Rattle.codec.proofs.HeaderLaws.{header_length}
 use Rattle.codec.proofs.Opened.{never}
-use Rattle.codec.proofs.Inverse.{read-room, item-forth, header-got, header-forth}
-use Rattle.reader.proofs.AlongLaws.{walk-item, walk-bad, items-end, items-item}
+use Rattle.codec.proofs.Inverse.{read_room, item_forth, header_got, header_forth}
+use Rattle.reader.proofs.AlongLaws.{walk_item, walk_bad, items_end, items_item}
 use Rattle.reader.specs.declared.frame.Verdict.{Verdict}
 use Rattle.reader.specs.declared.frame.Verdict.TheVariants as Verdict
 use Rattle.reader.specs.declared.frame.Judged.{Judged}
 use Rattle.reader.specs.declared.frame.Judged.TheVariants as Judged
 use Rattle.reader.specs.declared.copy.Rewritten.{Rewritten}
 use Rattle.reader.specs.declared.copy.Rewritten.TheVariants as Rewritten
-use Rattle.reader.specs.Frame.{walk_of, items_of, Clean, judgedBy, openHeader, judgeOf, laidOut, rewriteOf, rewrittenOf}
+use Rattle.reader.specs.Frame.{walk_of, items_of, Clean, judged_by, open_header, judge_of, laid_out, rewrite_of, rewritten_of}
 
 -- a clean walk meets no refusal
-pub not-bad : {G : Type 0} (s : List ℕ) (at : ℕ) {why : Refusal} → Clean s at → at < length s → readItem s at ≡ ItemRead.Refused why → G
-not-bad s at {why} c h q = let e : Verdict.Refused why ≡ Verdict.Clean = sym (walk-bad s at h q) ∙ c in never (cc)
+pub not-bad : {G : Type 0} (s : List ℕ) (at : ℕ) {why : Refusal} → Clean s at → at < length s → read_item s at ≡ ItemRead.Refused why → G
+not-bad s at {why} c h q = let e : Verdict.Refused why ≡ Verdict.Clean = sym (walk_bad s at h q) ∙ c in never (cc)
 
 -- what holds at the end, and at an item where it holds at the next place, holds all along a clean walk
 module _ (s : List ℕ) (P : ℕ → Type 0) (end : (at : ℕ) → at ≡ length s → P at)
-    (item : (at : ℕ) (it : Item) (start len next : ℕ) → at < length s → readItem s at ≡ ItemRead.Got it start len next → P next → P at) where
+    (item : (at : ℕ) (it : Item) (start len next : ℕ) → at < length s → read_item s at ≡ ItemRead.Got it start len next → P next → P at) where
   climb : (n at : ℕ) → at ≤ length s → length s ≤ at + n → Clean s at → P at
   climb zero at h f c = end at (omega arith)
-  climb (suc n) at h f c = go (λ next. climb n next) (ltb at (length s)) refl (readItem s at) refl
+  climb (suc n) at h f c = go (λ next. climb n next) (ltb at (length s)) refl (read_item s at) refl
     where
       go : ((next : ℕ) → next ≤ length s → length s ≤ next + n → Clean s next → P next)
-          → (t : Bool) → ltb at (length s) ≡ t → (r : ItemRead) → readItem s at ≡ r → P at
+          → (t : Bool) → ltb at (length s) ≡ t → (r : ItemRead) → read_item s at ≡ r → P at
       go on false e r q = let k : length s ≤ at = ltb-false at (length s) e in end at (omega arith)
       go on true e (ItemRead.Refused why) q = not-bad s at c (ltb-true at (length s) e) q
       go on true e (ItemRead.Got it start len next) q =
           let k : at < length s = ltb-true at (length s) e in
-          let r = read-room s at q in
-          item at it start len next k q (on next r.1 (omega arith) (sym (walk-item s at k q) ∙ c))
+          let r = read_room s at q in
+          item at it start len next k q (on next r.1 (omega arith) (sym (walk_item s at k q) ∙ c))
 
-  pub all-along : (at : ℕ) → at ≤ length s → Clean s at → P at
-  all-along at h c = climb (length s) at h (omega arith) c
+  pub all_along : (at : ℕ) → at ≤ length s → Clean s at → P at
+  all_along at h c = climb (length s) at h (omega arith) c
 
 -- the items from `at` on are still to be laid out
 pub record Left (s : List ℕ) (first : ℕ) (l out : List ℕ) (at : ℕ) : Type 0 where
@@ -65,16 +65,16 @@ pub record Left (s : List ℕ) (first : ℕ) (l out : List ℕ) (at : ℕ) : Typ
   pub clean : walk_of s at ≡ Verdict.Clean
   pub same : over l first (body (items_of s first)) ≡ over out at (body (items_of s at))
 
-pub left-first : (s : List ℕ) (first : ℕ) (l : List ℕ) → first ≤ length s → walk_of s first ≡ Verdict.Clean → Left s first l l first
-left-first s first l h c = record { most = h; len = refl; clean = c; same = refl }
+pub left_first : (s : List ℕ) (first : ℕ) (l : List ℕ) → first ≤ length s → walk_of s first ≡ Verdict.Clean → Left s first l l first
+left_first s first l h c = record { most = h; len = refl; clean = c; same = refl }
 
-pub left-item : {s : List ℕ} {first : ℕ} {l out : List ℕ} {at : ℕ} {it : Item} {start len next : ℕ} (pl : List ℕ) {out' : List ℕ} {p : Put}
-    → Left s first l out at → at < length s → length s ≤ length l → Bytes s → readItem s at ≡ ItemRead.Got it start len next
-    → pl ≡ bytes_at s start len → Wrote (itemOk it (length pl)) out at (encode it pl) out' p → Left s first l out' next
-left-item {s} {first} {l} {out} {at} {it} {start} {len} {next} pl {out'} {p} v h f b q e w =
-    let r = read-room s at q in
-    let o = item-forth s at b q in
-    let k : itemOk it (length pl) ≡ true = rw e o.valid.ok in
+pub left_item : {s : List ℕ} {first : ℕ} {l out : List ℕ} {at : ℕ} {it : Item} {start len next : ℕ} (pl : List ℕ) {out' : List ℕ} {p : Put}
+    → Left s first l out at → at < length s → length s ≤ length l → Bytes s → read_item s at ≡ ItemRead.Got it start len next
+    → pl ≡ bytes_at s start len → Wrote (item_ok it (length pl)) out at (encode it pl) out' p → Left s first l out' next
+left_item {s} {first} {l} {out} {at} {it} {start} {len} {next} pl {out'} {p} v h f b q e w =
+    let r = read_room s at q in
+    let o = item_forth s at b q in
+    let k : item_ok it (length pl) ≡ true = rw e o.valid.ok in
     let n : next ≡ at + length (encode it pl) = rw e o.ends in
     let m = v.len in
     let w1 : Wrote true out at (encode it pl) out' p = rw k at w in
@@ -82,78 +82,78 @@ left-item {s} {first} {l} {out} {at} {it} {start} {len} {next} pl {out'} {p} v h
     record {
       most = r.1;
       len = ap length d ∙ length_over out at (encode it pl) (omega arith) ∙ m;
-      clean = sym (walk-item s at h q) ∙ v.clean;
-      same = v.same ∙ rw (items-item s at h q, ← e, d, n) (sym (over-over out at (encode it pl) (body (items_of s (at + length (encode it pl)))) (omega arith)));
+      clean = sym (walk_item s at h q) ∙ v.clean;
+      same = v.same ∙ rw (items_item s at h q, ← e, d, n) (sym (over-over out at (encode it pl) (body (items_of s (at + length (encode it pl)))) (omega arith)));
     }
 
-pub left-last : {s : List ℕ} {first : ℕ} {l out : List ℕ} {at : ℕ} → Left s first l out at → length s ≤ at → out ≡ over l first (body (items_of s first))
-left-last {s} {first} {l} {out} {at} v h =
+pub left_last : {s : List ℕ} {first : ℕ} {l out : List ℕ} {at : ℕ} → Left s first l out at → length s ≤ at → out ≡ over l first (body (items_of s first))
+left_last {s} {first} {l} {out} {at} v h =
     let m = v.most in
     let e : at ≡ length s = omega arith in
-    let i : items_of s at ≡ [] = items-end s at e in
+    let i : items_of s at ≡ [] = items_end s at e in
     paste-zero out at [] ∙ sym (v.same ∙ rw i)
 
-over-after : (l xs ys : List ℕ) (k : ℕ) → length xs ≡ k → k ≤ length l → over (over l 0 xs) k ys ≡ over l 0 (xs ++ ys)
-over-after l xs ys k e h =
+over_after : (l xs ys : List ℕ) (k : ℕ) → length xs ≡ k → k ≤ length l → over (over l 0 xs) k ys ≡ over l 0 (xs ++ ys)
+over_after l xs ys k e h =
     let n : 0 + length xs ≡ k = omega arith in
     ap (λ (i : ℕ). over (over l 0 xs) i ys) (sym n) ∙ over-over l 0 xs ys (omega arith)
 
 -- what is judged to be a frame has its header and a clean walk, whatever walk it was
-pub judged-clean : (r : HeaderRead) (w : Verdict) {h : Header} → openHeader r (λ x. judgedBy x w) ≡ Judged.Frame h
+pub judged_clean : (r : HeaderRead) (w : Verdict) {h : Header} → open_header r (λ x. judged_by x w) ≡ Judged.Frame h
     → (r ≡ HeaderRead.Got h) × (w ≡ Verdict.Clean)
-judged-clean (HeaderRead.Got x) Verdict.Clean {h} e = let g : x ≡ h = cc in (ap HeaderRead.Got g, refl)
-judged-clean (HeaderRead.Got x) (Verdict.Refused why) e = never (cc)
-judged-clean (HeaderRead.Refused why) w e = never (cc)
+judged_clean (HeaderRead.Got x) Verdict.Clean {h} e = let g : x ≡ h = cc in (ap HeaderRead.Got g, refl)
+judged_clean (HeaderRead.Got x) (Verdict.Refused why) e = never (cc)
+judged_clean (HeaderRead.Refused why) w e = never (cc)
 
-pub accepted : (s : List ℕ) {h : Header} → judgeOf s ≡ Judged.Frame h → (readHeader s ≡ HeaderRead.Got h) × (walk_of s 14 ≡ Verdict.Clean)
-unfolding judgeOf
-accepted s e = judged-clean (readHeader s) (walk_of s 14) e
+pub accepted : (s : List ℕ) {h : Header} → judge_of s ≡ Judged.Frame h → (read_header s ≡ HeaderRead.Got h) × (walk_of s 14 ≡ Verdict.Clean)
+unfolding judge_of
+accepted s e = judged_clean (read_header s) (walk_of s 14) e
 
 -- the items of a clean walk are as long as the bytes they were read from
 module _ (s : List ℕ) (b : Bytes s) where
   pub body-length : (at : ℕ) → at ≤ length s → Clean s at → at + length (body (items_of s at)) ≡ length s
   body-length =
-      all-along s (λ at. at + length (body (items_of s at)) ≡ length s) (λ at e. rw (items-end s at e) (omega arith))
+      all_along s (λ at. at + length (body (items_of s at)) ≡ length s) (λ at e. rw (items_end s at e) (omega arith))
       (λ at it start len next k q x.
-      let y = (item-forth s at b q).ends in
-      rw (items-item s at k q, length-append) (omega arith))
+      let y = (item_forth s at b q).ends in
+      rw (items_item s at k q, length-append) (omega arith))
 
-  pub laid-length : {h : Header} → readHeader s ≡ HeaderRead.Got h → Clean s 14 → length (body (items_of s 14)) ≡ h.length
-  laid-length {h} e c =
-      let l = (header-got s e).long in
+  pub laid_length : {h : Header} → read_header s ≡ HeaderRead.Got h → Clean s 14 → length (body (items_of s 14)) ≡ h.length
+  laid_length {h} e c =
+      let l = (header_got s e).long in
       let x = body-length 14 l c in
-      let f = header-forth s b e in
+      let f = header_forth s b e in
       let r = f.size in
       omega arith
 
   -- the yielded header and items are the header's bytes and the items'
-  pub laid-is : {h : Header} → readHeader s ≡ HeaderRead.Got h → Clean s 14 → laidOut s h ≡ headerBytes h ++ body (items_of s 14)
-  unfolding laidOut layout
-  laid-is {h} e c = ap (λ (n : ℕ). headerBytes (record { sequence = h.sequence; time = h.time; length = n }) ++ body (items_of s 14)) (laid-length e c)
+  pub laid_is : {h : Header} → read_header s ≡ HeaderRead.Got h → Clean s 14 → laid_out s h ≡ header_bytes h ++ body (items_of s 14)
+  unfolding laid_out layout
+  laid_is {h} e c = ap (λ (n : ℕ). header_bytes (record { sequence = h.sequence; time = h.time; length = n }) ++ body (items_of s 14)) (laid_length e c)
 
-  pub rewrite-done : {h : Header} {out m l : List ℕ} {p : Put} → judgeOf s ≡ Judged.Frame h → length s ≤ length out
-      → Wrote (timeOk h.time) out 0 (headerBytes h) m p → l ≡ over m 14 (body (items_of s 14))
-      → (Rewritten.Done (length s) ≡ rewriteOf s out) × (l ≡ rewrittenOf s out)
-  unfolding rewriteOf rewrittenOf
-  rewrite-done {h} {out} {m} {l} {p} j f w d =
+  pub rewrite_done : {h : Header} {out m l : List ℕ} {p : Put} → judge_of s ≡ Judged.Frame h → length s ≤ length out
+      → Wrote (time_ok h.time) out 0 (header_bytes h) m p → l ≡ over m 14 (body (items_of s 14))
+      → (Rewritten.Done (length s) ≡ rewrite_of s out) × (l ≡ rewritten_of s out)
+  unfolding rewrite_of rewritten_of
+  rewrite_done {h} {out} {m} {l} {p} j f w d =
       let a = accepted s j in
       let e = a.0 in
-      let v = header-forth s b e in
-      let n = header-length h in
-      let g = (header-got s e).long in
-      let t : timeOk h.time ≡ true = simp (le-leb h.time.sec 281474976710655 v.sec, le-leb h.time.nano 999999999 v.nano) in
-      let w1 : Wrote true out 0 (headerBytes h) m p = rw t at w in
-      let k : m ≡ over out 0 (headerBytes h) = kept w1 (omega arith) in
-      let o : over (over out 0 (headerBytes h)) 14 (body (items_of s 14)) ≡ over out 0 (headerBytes h ++ body (items_of s 14))
-      = over-after out (headerBytes h) (body (items_of s 14)) 14 n (omega arith) in
-      (simp (j, le-leb (length s) (length out) f), d ∙ rw k (o ∙ simp (j, le-leb (length s) (length out) f, laid-is e a.1)))
+      let v = header_forth s b e in
+      let n = header_length h in
+      let g = (header_got s e).long in
+      let t : time_ok h.time ≡ true = simp (le-leb h.time.sec 281474976710655 v.sec, le-leb h.time.nano 999999999 v.nano) in
+      let w1 : Wrote true out 0 (header_bytes h) m p = rw t at w in
+      let k : m ≡ over out 0 (header_bytes h) = kept w1 (omega arith) in
+      let o : over (over out 0 (header_bytes h)) 14 (body (items_of s 14)) ≡ over out 0 (header_bytes h ++ body (items_of s 14))
+      = over_after out (header_bytes h) (body (items_of s 14)) 14 n (omega arith) in
+      (simp (j, le-leb (length s) (length out) f), d ∙ rw k (o ∙ simp (j, le-leb (length s) (length out) f, laid_is e a.1)))
 
-pub rewrite-small : (s out : List ℕ) {h : Header} → judgeOf s ≡ Judged.Frame h → length out < length s
-    → (Rewritten.Small ≡ rewriteOf s out) × (out ≡ rewrittenOf s out)
-unfolding rewriteOf rewrittenOf
-rewrite-small s out j f = (simp (j, lt-leb (length s) (length out) f), simp (j, lt-leb (length s) (length out) f))
+pub rewrite_small : (s out : List ℕ) {h : Header} → judge_of s ≡ Judged.Frame h → length out < length s
+    → (Rewritten.Small ≡ rewrite_of s out) × (out ≡ rewritten_of s out)
+unfolding rewrite_of rewritten_of
+rewrite_small s out j f = (simp (j, lt-leb (length s) (length out) f), simp (j, lt-leb (length s) (length out) f))
 
-pub rewrite-refused : (s out : List ℕ) {why : Refusal} → judgeOf s ≡ Judged.Refused why
-    → (Rewritten.Refused why ≡ rewriteOf s out) × (out ≡ rewrittenOf s out)
-unfolding rewriteOf rewrittenOf
-rewrite-refused s out j = (simp j, simp j)
+pub rewrite_refused : (s out : List ℕ) {why : Refusal} → judge_of s ≡ Judged.Refused why
+    → (Rewritten.Refused why ≡ rewrite_of s out) × (out ≡ rewritten_of s out)
+unfolding rewrite_of rewritten_of
+rewrite_refused s out j = (simp j, simp j)

@@ -14,41 +14,41 @@ use Rattle.reader.proofs.answer.stepped_number.Reads as stepped-number
 use Rattle.reader.proofs.answer.rewritten_number.Reads as rewritten-number
 use Rattle.reader.proofs.answer.rewritten_length.Reads as rewritten-length
 
-pub judge-unique : (κs : _) (a : _) (r r' : _) (x x' : _) → judge.Post κs a r x → judge.Post κs a r' x' → r ≡ r'
-judge-unique κs a r r' x x' p q = p ∙ sym q
+pub judge_unique : (κs : _) (a : _) (r r' : _) (x x' : _) → judge.Post κs a r x → judge.Post κs a r' x' → r ≡ r'
+judge_unique κs a r r' x x' p q = p ∙ sym q
 
-pub step-unique : (κs : _) (a : _) (r r' : _) (x x' : _) → step.Post κs a r x → step.Post κs a r' x' → r ≡ r'
-step-unique κs a r r' x x' p q = p ∙ sym q
+pub step_unique : (κs : _) (a : _) (r r' : _) (x x' : _) → step.Post κs a r x → step.Post κs a r' x' → r ≡ r'
+step_unique κs a r r' x x' p q = p ∙ sym q
 
-pub item-at-unique : (κs : _) (a : _) (r r' : _) (x x' : _) → item-at.Post κs a r x → item-at.Post κs a r' x' → r ≡ r'
-item-at-unique κs a r r' x x' p q = p ∙ sym q
+pub item_at_unique : (κs : _) (a : _) (r r' : _) (x x' : _) → item-at.Post κs a r x → item-at.Post κs a r' x' → r ≡ r'
+item_at_unique κs a r r' x x' p q = p ∙ sym q
 
-pub payload-unique : (κs : _) (a : _) (r r' : _) (x x' : _) → payload.Post κs a r x → payload.Post κs a r' x' → r.now ≡ r'.now
-payload-unique κs a r r' x x' p q = p ∙ sym q
+pub payload_unique : (κs : _) (a : _) (r r' : _) (x x' : _) → payload.Post κs a r x → payload.Post κs a r' x' → r.now ≡ r'.now
+payload_unique κs a r r' x x' p q = p ∙ sym q
 
-pub payload-at-unique : (κs : _) (a : _) (r r' : _) (x x' : _) → payload-at.Post κs a r x → payload-at.Post κs a r' x' → r.now ≡ r'.now
-payload-at-unique κs a r r' x x' p q = p ∙ sym q
+pub payload_at_unique : (κs : _) (a : _) (r r' : _) (x x' : _) → payload-at.Post κs a r x → payload-at.Post κs a r' x' → r.now ≡ r'.now
+payload_at_unique κs a r r' x x' p q = p ∙ sym q
 
-pub rewrite-unique : (κs : _) (a : _) (r r' : _) (x x' : _) → rewrite.Post κs a r x → rewrite.Post κs a r' x' → (r ≡ r') × (x.1.0.now ≡ x'.1.0.now)
-rewrite-unique κs a r r' x x' p q = (p.0 ∙ sym q.0, p.1 ∙ sym q.1)
+pub rewrite_unique : (κs : _) (a : _) (r r' : _) (x x' : _) → rewrite.Post κs a r x → rewrite.Post κs a r' x' → (r ≡ r') × (x.1.0.now ≡ x'.1.0.now)
+rewrite_unique κs a r r' x x' p q = (p.0 ∙ sym q.0, p.1 ∙ sym q.1)
 
-pub judged-number-unique : (κs : _) (a : _) (r r' : _) (x x' : _) → judged-number.Post κs a r x → judged-number.Post κs a r' x' → r ≡ r'
-judged-number-unique κs a r r' x x' p q = p ∙ sym q
+pub judged_number_unique : (κs : _) (a : _) (r r' : _) (x x' : _) → judged-number.Post κs a r x → judged-number.Post κs a r' x' → r ≡ r'
+judged_number_unique κs a r r' x x' p q = p ∙ sym q
 
-pub judged-header-unique : (κs : _) (a : _) (r r' : _) (x x' : _) → judged-header.Post κs a r x → judged-header.Post κs a r' x' → r ≡ r'
-judged-header-unique κs a r r' x x' p q = p ∙ sym q
+pub judged_header_unique : (κs : _) (a : _) (r r' : _) (x x' : _) → judged-header.Post κs a r x → judged-header.Post κs a r' x' → r ≡ r'
+judged_header_unique κs a r r' x x' p q = p ∙ sym q
 
-pub stepped-number-unique : (κs : _) (a : _) (r r' : _) (x x' : _) → stepped-number.Post κs a r x → stepped-number.Post κs a r' x' → r ≡ r'
-stepped-number-unique κs a r r' x x' p q = p ∙ sym q
+pub stepped_number_unique : (κs : _) (a : _) (r r' : _) (x x' : _) → stepped-number.Post κs a r x → stepped-number.Post κs a r' x' → r ≡ r'
+stepped_number_unique κs a r r' x x' p q = p ∙ sym q
 
-pub rewritten-number-unique : (κs : _) (a : _) (r r' : _) (x x' : _) → rewritten-number.Post κs a r x → rewritten-number.Post κs a r' x' → r ≡ r'
-rewritten-number-unique κs a r r' x x' p q = p ∙ sym q
+pub rewritten_number_unique : (κs : _) (a : _) (r r' : _) (x x' : _) → rewritten-number.Post κs a r x → rewritten-number.Post κs a r' x' → r ≡ r'
+rewritten_number_unique κs a r r' x x' p q = p ∙ sym q
 
-pub rewritten-length-unique : (κs : _) (a : _) (r r' : _) (x x' : _) → rewritten-length.Post κs a r x → rewritten-length.Post κs a r' x' → r ≡ r'
-rewritten-length-unique κs a r r' x x' p q = p ∙ sym q
+pub rewritten_length_unique : (κs : _) (a : _) (r r' : _) (x x' : _) → rewritten-length.Post κs a r x → rewritten-length.Post κs a r' x' → r ≡ r'
+rewritten_length_unique κs a r r' x x' p q = p ∙ sym q
 
-pub item-refusal-unique : (κs : _) (a : _) (r r' : _) (x x' : _) → item-refusal.Post κs a r x → item-refusal.Post κs a r' x' → r ≡ r'
-item-refusal-unique κs a r r' x x' p q = p ∙ sym q
+pub item_refusal_unique : (κs : _) (a : _) (r r' : _) (x x' : _) → item-refusal.Post κs a r x → item-refusal.Post κs a r' x' → r ≡ r'
+item_refusal_unique κs a r r' x x' p q = p ∙ sym q
 
-pub judged-refusal-unique : (κs : _) (a : _) (r r' : _) (x x' : _) → judged-refusal.Post κs a r x → judged-refusal.Post κs a r' x' → r ≡ r'
-judged-refusal-unique κs a r r' x x' p q = p ∙ sym q
+pub judged_refusal_unique : (κs : _) (a : _) (r r' : _) (x x' : _) → judged-refusal.Post κs a r x → judged-refusal.Post κs a r' x' → r ≡ r'
+judged_refusal_unique κs a r r' x x' p q = p ∙ sym q

@@ -9,8 +9,8 @@ use lib.ListN.{length}
 use lib.Dec.{eqb}
 use Rattle.codec.specs.Choice.{pick, bit}
 use Rattle.codec.specs.Number.{Bytes}
-use Rattle.codec.specs.Field.{readItem, bytes_at}
-use Rattle.codec.specs.Header.{readHeader}
+use Rattle.codec.specs.Field.{read_item, bytes_at}
+use Rattle.codec.specs.Header.{read_header}
 use Rattle.codec.specs.Layout.{Entry, AllValid}
 use Rattle.codec.specs.declared.refusal.Refusal.{Refusal}
 use Rattle.codec.specs.declared.refusal.Refusal.TheVariants as Refusal
@@ -19,41 +19,41 @@ use Rattle.codec.specs.declared.field.ItemRead.{ItemRead}
 use Rattle.codec.specs.declared.field.ItemRead.TheVariants as ItemRead
 use Rattle.codec.specs.declared.header.Header.{Header}
 use Rattle.codec.proofs.Opened.{never}
-use Rattle.codec.proofs.Narrow.{narrowItem, isError, Wider, item-wider, ErrorEntry, error-entry}
+use Rattle.codec.proofs.Narrow.{narrow_item, is_error, Wider, item_wider, ErrorEntry, error_entry}
 use Rattle.reader.specs.declared.frame.Judged.{Judged}
 use Rattle.reader.specs.declared.frame.Judged.TheVariants as Judged
 use Rattle.reader.specs.declared.frame.Verdict.{Verdict}
 use Rattle.reader.specs.declared.frame.Verdict.TheVariants as Verdict
-use Rattle.reader.specs.Frame.{openItem, along, walk_of, items_of, judgedBy, openHeader, judgeOf}
-use Rattle.reader.proofs.FrameLaws.{judged-clean, accepted}
+use Rattle.reader.specs.Frame.{open_item, along, walk_of, items_of, judged_by, open_header, judge_of}
+use Rattle.reader.proofs.FrameLaws.{judged_clean, accepted}
 use Rattle.reader.proofs.Theorems.{accepts}
 
 -- along the items of the narrow layout
-unfoldable pub narrowAlong : {A : Type 0} → A → (Refusal → A) → (ℕ → Item → ℕ → ℕ → A → A) → ℕ → List ℕ → ℕ → A
-narrowAlong done bad more zero s at = done
-narrowAlong done bad more (suc n) s at =
+unfoldable pub narrow_along : {A : Type 0} → A → (Refusal → A) → (ℕ → Item → ℕ → ℕ → A → A) → ℕ → List ℕ → ℕ → A
+narrow_along done bad more zero s at = done
+narrow_along done bad more (suc n) s at =
     pick (eqb at (length s)) done
-    (openItem (narrowItem s at) (λ item start len next. more at item start len (narrowAlong done bad more n s next)) bad)
+    (open_item (narrow_item s at) (λ item start len next. more at item start len (narrow_along done bad more n s next)) bad)
 
 -- its reader: the header first, then the items from place 14
-unfoldable pub narrowJudge : List ℕ → Judged
-narrowJudge s =
-    openHeader (readHeader s)
-    (λ h. judgedBy h (narrowAlong Verdict.Clean Verdict.Refused (λ place item start len rest. rest) (length s - 14) s 14))
+unfoldable pub narrow_judge : List ℕ → Judged
+narrow_judge s =
+    open_header (read_header s)
+    (λ h. judged_by h (narrow_along Verdict.Clean Verdict.Refused (λ place item start len rest. rest) (length s - 14) s 14))
 
-unfoldable pub narrowItems : List ℕ → List Entry
-narrowItems s =
-    narrowAlong [] (λ why. []) (λ here item start len rest. record { item = item; payload = bytes_at s start len } ∷ rest) (length s - 14) s 14
+unfoldable pub narrow_items : List ℕ → List Entry
+narrow_items s =
+    narrow_along [] (λ why. []) (λ here item start len rest. record { item = item; payload = bytes_at s start len } ∷ rest) (length s - 14) s 14
 
 -- an error without a frame is among the items
-abbrev pub anyError : List Entry → Bool
-anyError [] = false
-anyError (e ∷ es) = isError e.item.ident || anyError es
+abbrev pub any_error : List Entry → Bool
+any_error [] = false
+any_error (e ∷ es) = is_error e.item.ident || any_error es
 
 -- each such item has channels, a state and nothing else
 abbrev pub Errors : List Entry → Type 0
 Errors [] = Unit
-Errors (e ∷ es) = (isError e.item.ident ≡ true → ErrorEntry e) × Errors es
+Errors (e ∷ es) = (is_error e.item.ident ≡ true → ErrorEntry e) × Errors es
 
 module _ (s : List ℕ) where
   abbrev Rest : Type 0 → Type 0
@@ -72,30 +72,30 @@ module _ (s : List ℕ) where
   items n at = along [] (λ why. []) keep n s at
 
   abbrev narrow : ℕ → ℕ → Verdict
-  narrow n at = narrowAlong Verdict.Clean Verdict.Refused skip n s at
+  narrow n at = narrow_along Verdict.Clean Verdict.Refused skip n s at
 
   abbrev narrows : ℕ → ℕ → List Entry
-  narrows n at = narrowAlong [] (λ why. []) keep n s at
+  narrows n at = narrow_along [] (λ why. []) keep n s at
 
   -- from a place on: what the narrow layout has is read the same
   record Same (n at : ℕ) : Type 0 where
     pub clean : walk n at ≡ Verdict.Clean
     pub same : items n at ≡ narrows n at
-    pub none : anyError (items n at) ≡ false
+    pub none : any_error (items n at) ≡ false
 
   stays : (n at : ℕ) → narrow n at ≡ Verdict.Clean → Same n at
-  unfolding along narrowAlong
+  unfolding along narrow_along
   stays zero at e = record { clean = refl; same = refl; none = refl }
-  stays (suc n) at e = go (stays n) (eqb at (length s)) refl (narrowItem s at) refl (readItem s at) refl (item-wider s at)
+  stays (suc n) at e = go (stays n) (eqb at (length s)) refl (narrow_item s at) refl (read_item s at) refl (item_wider s at)
     where
       go : ((next : ℕ) → narrow n next ≡ Verdict.Clean → Same n next) → (t : Bool) → eqb at (length s) ≡ t
-          → (x : ItemRead) → narrowItem s at ≡ x → (y : ItemRead) → readItem s at ≡ y → Wider x y → Same (suc n) at
+          → (x : ItemRead) → narrow_item s at ≡ x → (y : ItemRead) → read_item s at ≡ y → Wider x y → Same (suc n) at
       go on true q x p y r w = record { clean = simp q; same = simp q; none = simp q }
       go on false q (ItemRead.Refused why) p y r w = let z : Verdict.Refused why ≡ Verdict.Clean = rw (q, p) at e in never (cc)
       go on false q (ItemRead.Got it start len next) p y r (inl (i, u)) =
           let k = on next (rw (q, p) at e) in
-          let g : readItem s at ≡ ItemRead.Got it start len next = r ∙ sym i in
-          let v : isError it.ident ≡ false = rw (← i) at u in
+          let g : read_item s at ≡ ItemRead.Got it start len next = r ∙ sym i in
+          let v : is_error it.ident ≡ false = rw (← i) at u in
           record {
             clean = rw (q, g) k.clean;
             same = rw (q, g, p) (ap (λ (l : List Entry). record { item = it; payload = bytes_at s start len } ∷ l) k.same);
@@ -106,51 +106,51 @@ module _ (s : List ℕ) where
   -- and what is read besides, the narrow layout refuses with 25
   abbrev Adds : ℕ → ℕ → Type 0
   Adds n at =
-      (anyError (items n at) ≡ false → narrow n at ≡ Verdict.Clean) × (anyError (items n at) ≡ true → narrow n at ≡ Verdict.Refused Refusal.Reserved)
+      (any_error (items n at) ≡ false → narrow n at ≡ Verdict.Clean) × (any_error (items n at) ≡ true → narrow n at ≡ Verdict.Refused Refusal.Reserved)
 
   adds : (n at : ℕ) → walk n at ≡ Verdict.Clean → Adds n at
-  unfolding along narrowAlong
+  unfolding along narrow_along
   adds zero at e = (λ z. refl, λ z. never (ap bit z))
-  adds (suc n) at e = go (adds n) (eqb at (length s)) refl (narrowItem s at) refl (readItem s at) refl (item-wider s at)
+  adds (suc n) at e = go (adds n) (eqb at (length s)) refl (narrow_item s at) refl (read_item s at) refl (item_wider s at)
     where
       go : ((next : ℕ) → walk n next ≡ Verdict.Clean → Adds n next) → (t : Bool) → eqb at (length s) ≡ t
-          → (x : ItemRead) → narrowItem s at ≡ x → (y : ItemRead) → readItem s at ≡ y → Wider x y → Adds (suc n) at
+          → (x : ItemRead) → narrow_item s at ≡ x → (y : ItemRead) → read_item s at ≡ y → Wider x y → Adds (suc n) at
       go on true q x p y r w = (λ z. simp q, λ z. never (ap bit (rw q at z)))
       go on false q x p (ItemRead.Refused why) r w = let z : Verdict.Refused why ≡ Verdict.Clean = rw (q, r) at e in never (cc)
       go on false q x p (ItemRead.Got it start len next) r (inl (i, u)) =
           let k = on next (rw (q, r) at e) in
-          let g : narrowItem s at ≡ ItemRead.Got it start len next = p ∙ i in
+          let g : narrow_item s at ≡ ItemRead.Got it start len next = p ∙ i in
           (λ z. rw (q, g) (k.0 (rw (q, r, u) at z)), λ z. rw (q, g) (k.1 (rw (q, r, u) at z)))
       go on false q x p (ItemRead.Got it start len next) r (inr (i, u)) =
-          let g : narrowItem s at ≡ ItemRead.Refused Refusal.Reserved = p ∙ i in
+          let g : narrow_item s at ≡ ItemRead.Refused Refusal.Reserved = p ∙ i in
           (λ z. never (sym (ap bit (rw (q, r, u) at z))), λ z. simp (q, g))
 
 -- a frame of the narrow layout is accepted with the same header and the same items, none of them an error without a frame
-pub stays_same : (s : List ℕ) {h : Header} → narrowJudge s ≡ Judged.Frame h
-    → (judgeOf s ≡ Judged.Frame h) × (items_of s 14 ≡ narrowItems s) × (anyError (items_of s 14) ≡ false)
-unfolding narrowJudge narrowItems judgeOf walk_of items_of
+pub stays_same : (s : List ℕ) {h : Header} → narrow_judge s ≡ Judged.Frame h
+    → (judge_of s ≡ Judged.Frame h) × (items_of s 14 ≡ narrow_items s) × (any_error (items_of s 14) ≡ false)
+unfolding narrow_judge narrow_items judge_of walk_of items_of
 stays_same s e =
-    let a = judged-clean (readHeader s) _ e in
+    let a = judged_clean (read_header s) _ e in
     let k = stays s (length s - 14) 14 a.1 in
     (rw (a.0, k.clean), k.same, k.none)
 
 -- an accepted frame without such an error is one of the narrow layout, with the same header and items
-pub none-new : (s : List ℕ) {h : Header} → judgeOf s ≡ Judged.Frame h → anyError (items_of s 14) ≡ false
-    → (narrowJudge s ≡ Judged.Frame h) × (narrowItems s ≡ items_of s 14)
-unfolding narrowJudge walk_of items_of
-none-new s {h} j z =
+pub none_new : (s : List ℕ) {h : Header} → judge_of s ≡ Judged.Frame h → any_error (items_of s 14) ≡ false
+    → (narrow_judge s ≡ Judged.Frame h) × (narrow_items s ≡ items_of s 14)
+unfolding narrow_judge walk_of items_of
+none_new s {h} j z =
     let a = accepted s j in
-    let j' : narrowJudge s ≡ Judged.Frame h = rw (a.0, (adds s (length s - 14) 14 a.1).0 z) in
+    let j' : narrow_judge s ≡ Judged.Frame h = rw (a.0, (adds s (length s - 14) 14 a.1).0 z) in
     (j', sym (stays_same s j').1)
 
-all-errors : (es : List Entry) → AllValid es → Errors es
-all-errors [] v = tt
-all-errors (e ∷ es) v = (error-entry e v.0, all-errors es v.1)
+all_errors : (es : List Entry) → AllValid es → Errors es
+all_errors [] v = tt
+all_errors (e ∷ es) v = (error_entry e v.0, all_errors es v.1)
 
 -- and an accepted frame with one is new: the narrow layout refuses it with 25, and each such item is what an error may be
-pub just-errors : (s : List ℕ) → Bytes s → {h : Header} → judgeOf s ≡ Judged.Frame h → anyError (items_of s 14) ≡ true
-    → (narrowJudge s ≡ Judged.Refused Refusal.Reserved) × Errors (items_of s 14)
-unfolding narrowJudge walk_of items_of
-just-errors s b j z =
+pub just_errors : (s : List ℕ) → Bytes s → {h : Header} → judge_of s ≡ Judged.Frame h → any_error (items_of s 14) ≡ true
+    → (narrow_judge s ≡ Judged.Refused Refusal.Reserved) × Errors (items_of s 14)
+unfolding narrow_judge walk_of items_of
+just_errors s b j z =
     let a = accepted s j in
-    (rw (a.0, (adds s (length s - 14) 14 a.1).1 z), all-errors (items_of s 14) (accepts s b j).valid)
+    (rw (a.0, (adds s (length s - 14) 14 a.1).1 z), all_errors (items_of s 14) (accepts s b j).valid)

@@ -10,25 +10,25 @@ use Rattle.reader.specs.declared.place.Stepped.TheVariants as Stepped
 use Rattle.reader.specs.declared.copy.Rewritten.{Rewritten}
 use Rattle.reader.specs.declared.copy.Rewritten.TheVariants as Rewritten
 
-abbrev pub judgedNumber : Judged → ℕ
-judgedNumber (Judged.Frame h) = 0
-judgedNumber (Judged.Refused why) = number_of why
+abbrev pub judged_number : Judged → ℕ
+judged_number (Judged.Frame h) = 0
+judged_number (Judged.Refused why) = number_of why
 
-abbrev pub judgedHeader : Judged → Header
-judgedHeader (Judged.Frame h) = h
-judgedHeader (Judged.Refused why) = record { sequence = 0; time = record { sec = 0; nano = 0 }; length = 0 }
+abbrev pub judged_header : Judged → Header
+judged_header (Judged.Frame h) = h
+judged_header (Judged.Refused why) = record { sequence = 0; time = record { sec = 0; nano = 0 }; length = 0 }
 
-abbrev pub steppedNumber : Stepped → ℕ
-steppedNumber (Stepped.Item next time item len) = 0
-steppedNumber Stepped.End = 0
-steppedNumber (Stepped.Refused why) = number_of why
+abbrev pub stepped_number : Stepped → ℕ
+stepped_number (Stepped.Item next time item len) = 0
+stepped_number Stepped.End = 0
+stepped_number (Stepped.Refused why) = number_of why
 
-abbrev pub rewrittenNumber : Rewritten → ℕ
-rewrittenNumber (Rewritten.Done n) = 0
-rewrittenNumber Rewritten.Small = 12
-rewrittenNumber (Rewritten.Refused why) = number_of why
+abbrev pub rewritten_number : Rewritten → ℕ
+rewritten_number (Rewritten.Done n) = 0
+rewritten_number Rewritten.Small = 12
+rewritten_number (Rewritten.Refused why) = number_of why
 
-abbrev pub rewrittenLength : Rewritten → ℕ
-rewrittenLength (Rewritten.Done n) = n
-rewrittenLength Rewritten.Small = 0
-rewrittenLength (Rewritten.Refused why) = 0
+abbrev pub rewritten_length : Rewritten → ℕ
+rewritten_length (Rewritten.Done n) = n
+rewritten_length Rewritten.Small = 0
+rewritten_length (Rewritten.Refused why) = 0

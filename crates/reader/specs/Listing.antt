@@ -1,6 +1,6 @@
 -- What stepping through a frame yields, and what a frame of the layout is.
 use Rattle.std.specs.Prelude.{ℕ, zero, suc, ◌+◌, ◌≡◌, Bool, false, ◌||◌, List, [], ◌∷◌, length, eqb}
-use Rattle.codec.specs.Time.{recoveredOf}
+use Rattle.codec.specs.Time.{recovered_of}
 use Rattle.codec.specs.Item.{encode}
 use Rattle.codec.specs.Layout.{Entry, Head, AllValid, body, layout}
 use Rattle.codec.specs.declared.time.Time.{Time}
@@ -8,7 +8,7 @@ use Rattle.codec.specs.declared.item.Item.{Item}
 use Rattle.codec.specs.declared.header.Header.{Header}
 use Rattle.reader.specs.declared.place.Stepped.{Stepped}
 use Rattle.reader.specs.declared.place.Stepped.TheVariants as Stepped
-use Rattle.reader.specs.Frame.{step_of, payloadOf}
+use Rattle.reader.specs.Frame.{step_of, payload_of}
 
 -- one step: the item, where it stands, where the next one does, its time and its payload
 pub record Yield : Type 0 where
@@ -18,17 +18,17 @@ pub record Yield : Type 0 where
   pub item : Item
   pub payload : List ℕ
 
-abbrev pub openStepped : {A : Type 0} → Stepped → (ℕ → Time → Item → A) → A → A
-openStepped (Stepped.Item next time item len) k z = k next time item
-openStepped Stepped.End k z = z
-openStepped (Stepped.Refused why) k z = z
+abbrev pub open_stepped : {A : Type 0} → Stepped → (ℕ → Time → Item → A) → A → A
+open_stepped (Stepped.Item next time item len) k z = k next time item
+open_stepped Stepped.End k z = z
+open_stepped (Stepped.Refused why) k z = z
 
 -- stepping from a place on, n times at most, until the end or a refusal
 unfoldable pub stepping : ℕ → List ℕ → ℕ → List Yield
 stepping zero s at = []
 stepping (suc n) s at =
-    openStepped (step_of s at)
-    (λ next time item. record { place = at; next = next; time = time; item = item; payload = payloadOf s at } ∷ stepping n s next) []
+    open_stepped (step_of s at)
+    (λ next time item. record { place = at; next = next; time = time; item = item; payload = payload_of s at } ∷ stepping n s next) []
 
 -- the items of a list one after the other from a place on, dated from a header time
 abbrev pub listing : Time → ℕ → List Entry → List Yield
@@ -37,7 +37,7 @@ listing t at (e ∷ es) =
     record {
       place = at;
       next = at + length (encode e.item e.payload);
-      time = recoveredOf t e.item.offset.0;
+      time = recovered_of t e.item.offset.0;
       item = e.item;
       payload = e.payload;
     }

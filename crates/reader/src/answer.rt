@@ -1,6 +1,6 @@
 // The numbers of the reader's answers, and what stands beside them.
 ghost use Rattle.std.specs.Prelude.{◌≡◌};
-ghost use Rattle.reader.specs.Answer.{judgedNumber, judgedHeader, steppedNumber, rewrittenNumber, rewrittenLength};
+ghost use Rattle.reader.specs.Answer.{judged_number, judged_header, stepped_number, rewritten_number, rewritten_length};
 
 use crate::copy::Rewritten;
 use crate::frame::Judged;
@@ -9,7 +9,7 @@ use codec::header::Header;
 use codec::time::Time;
 
 pub fn judged_number(r: Judged) -> u8
-    ensures { result ≡ judgedNumber r }
+    ensures { result ≡ judged_number r }
 {
     match r {
         Judged::Frame(_) => 0,
@@ -19,7 +19,7 @@ pub fn judged_number(r: Judged) -> u8
 
 // The header of an accepted frame; all zero beside a refusal.
 pub fn judged_header(r: Judged) -> Header
-    ensures { result ≡ judgedHeader r }
+    ensures { result ≡ judged_header r }
 {
     match r {
         Judged::Frame(h) => h,
@@ -32,7 +32,7 @@ pub fn judged_header(r: Judged) -> Header
 }
 
 pub fn stepped_number(r: Stepped) -> u8
-    ensures { result ≡ steppedNumber r }
+    ensures { result ≡ stepped_number r }
 {
     match r {
         Stepped::Item {
@@ -47,7 +47,7 @@ pub fn stepped_number(r: Stepped) -> u8
 }
 
 pub fn rewritten_number(r: Rewritten) -> u8
-    ensures { result ≡ rewrittenNumber r }
+    ensures { result ≡ rewritten_number r }
 {
     match r {
         Rewritten::Done(_) => 0,
@@ -58,7 +58,7 @@ pub fn rewritten_number(r: Rewritten) -> u8
 
 // How many bytes a rewrite laid out; 0 beside a refusal.
 pub fn rewritten_length(r: Rewritten) -> usize
-    ensures { result ≡ rewrittenLength r }
+    ensures { result ≡ rewritten_length r }
 {
     match r {
         Rewritten::Done(n) => n,

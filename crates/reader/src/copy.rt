@@ -3,7 +3,7 @@
 ghost use Rattle.std.specs.Prelude.{◌≡◌, ◌≤◌, length};
 ghost use Rattle.codec.specs.Number.{over};
 ghost use Rattle.codec.specs.Layout.{body};
-ghost use Rattle.reader.specs.Frame.{Clean, items_of, rewrittenOf, rewriteOf};
+ghost use Rattle.reader.specs.Frame.{Clean, items_of, rewritten_of, rewrite_of};
 
 use crate::frame::Judged;
 use codec::field::ItemRead;
@@ -39,8 +39,8 @@ fn rewrite_items(frame: &[u8], first: usize, out: &mut [u8])
 }
 
 pub fn rewrite(frame: &[u8], out: &mut [u8]) -> Rewritten
-    ensures value { result ≡ rewriteOf frame.now out.old }
-    ensures out_after { out.new ≡ rewrittenOf frame.now out.old }
+    ensures value { result ≡ rewrite_of frame.now out.old }
+    ensures out_after { out.new ≡ rewritten_of frame.now out.old }
 {
     let judged = crate::frame::judge(frame);
     let Judged::Frame(h) = judged else {

@@ -1,6 +1,6 @@
 // The verdict on a whole frame: its header, then its items from the first to the end.
 ghost use Rattle.std.specs.Prelude.{◌≡◌, ◌≤◌, length};
-ghost use Rattle.reader.specs.Frame.{judgeOf, walk_of, headerRefusal, itemRefusal, judgedRefusal, judgedBy};
+ghost use Rattle.reader.specs.Frame.{judge_of, walk_of, header_refusal, item_refusal, judged_refusal, judged_by};
 
 use codec::field::ItemRead;
 use codec::header::{Header, HeaderRead};
@@ -20,7 +20,7 @@ enum Verdict {
 
 // The refusal in an answer that is one: a `let .. else` cannot bind it.
 fn header_refusal(r: HeaderRead) -> Refusal
-    ensures { result ≡ headerRefusal r }
+    ensures { result ≡ header_refusal r }
 {
     match r {
         HeaderRead::Got(_) => Refusal::Short,
@@ -29,7 +29,7 @@ fn header_refusal(r: HeaderRead) -> Refusal
 }
 
 pub fn item_refusal(r: ItemRead) -> Refusal
-    ensures { result ≡ itemRefusal r }
+    ensures { result ≡ item_refusal r }
 {
     match r {
         ItemRead::Got {
@@ -43,7 +43,7 @@ pub fn item_refusal(r: ItemRead) -> Refusal
 }
 
 pub fn judged_refusal(r: Judged) -> Refusal
-    ensures { result ≡ judgedRefusal r }
+    ensures { result ≡ judged_refusal r }
 {
     match r {
         Judged::Frame(_) => Refusal::Short,
@@ -52,7 +52,7 @@ pub fn judged_refusal(r: Judged) -> Refusal
 }
 
 fn judged_by(r: Verdict, h: Header) -> Judged
-    ensures { result ≡ judgedBy h r }
+    ensures { result ≡ judged_by h r }
 {
     match r {
         Verdict::Clean => Judged::Frame(h),
@@ -83,7 +83,7 @@ fn walk(frame: &[u8], first: usize) -> Verdict
 }
 
 pub fn judge(frame: &[u8]) -> Judged
-    ensures { result ≡ judgeOf frame.now }
+    ensures { result ≡ judge_of frame.now }
 {
     let read = codec::header::read_header(frame);
     let HeaderRead::Got(h) = read else {

@@ -1,6 +1,6 @@
 // One item at a place, and its payload as that very part of the caller's frame.
 ghost use Rattle.std.specs.Prelude.{◌≡◌, ◌≤◌, length};
-ghost use Rattle.reader.specs.Frame.{timeIn, startsOf, held_of, itemAtOf, payloadAtOf, step_of, payloadOf};
+ghost use Rattle.reader.specs.Frame.{time_in, starts_of, held_of, item_at_of, payload_at_of, step_of, payload_of};
 
 use crate::frame::Judged;
 use codec::field::ItemRead;
@@ -22,7 +22,7 @@ pub enum Stepped {
 
 // The header time of a frame, whatever else stands in it.
 fn time_in(frame: &[u8]) -> Time
-    ensures { result ≡ timeIn frame.now }
+    ensures { result ≡ time_in frame.now }
 {
     Time {
         sec: codec::number::word_at(frame, 2, 6),
@@ -32,7 +32,7 @@ fn time_in(frame: &[u8]) -> Time
 
 // Reads at a place without judging the frame: for a listing that judged it once.
 pub fn item_at(frame: &[u8], place: usize) -> Stepped
-    ensures { result ≡ itemAtOf frame.now place }
+    ensures { result ≡ item_at_of frame.now place }
 {
     if place == frame.len() {
         return Stepped::End;
@@ -57,7 +57,7 @@ pub fn item_at(frame: &[u8], place: usize) -> Stepped
 }
 
 pub fn payload_at(frame: &[u8], place: usize) -> &[u8]
-    ensures { result.now ≡ payloadAtOf frame.now place }
+    ensures { result.now ≡ payload_at_of frame.now place }
 {
     let ItemRead::Got {
         item: _,
@@ -74,7 +74,7 @@ pub fn payload_at(frame: &[u8], place: usize) -> &[u8]
 // The place starts an item or is the end, walking from the first item.
 fn starts(frame: &[u8], first: usize, place: usize) -> bool
     requires { first ≤ length frame.now }
-    ensures { result ≡ startsOf frame.now place first }
+    ensures { result ≡ starts_of frame.now place first }
 {
     let mut at = first;
     while at < frame.len() {
@@ -120,7 +120,7 @@ fn held(frame: &[u8], place: usize) -> bool
 }
 
 pub fn payload(frame: &[u8], place: usize) -> &[u8]
-    ensures { result.now ≡ payloadOf frame.now place }
+    ensures { result.now ≡ payload_of frame.now place }
 {
     if held(frame, place) {
         payload_at(frame, place)

@@ -11,32 +11,32 @@ use Rattle.recording.proofs.write.frame.Reads as frame
 use Rattle.recording.proofs.write.note.Reads as note
 use Rattle.recording.proofs.write.start.Reads as start
 
-pub judge-unique : (κs : _) (a : _) (r r' : _) (x x' : _) → judge.Post κs a r x → judge.Post κs a r' x' → r ≡ r'
-judge-unique κs a r r' x x' p q = p ∙ sym q
+pub judge_unique : (κs : _) (a : _) (r r' : _) (x x' : _) → judge.Post κs a r x → judge.Post κs a r' x' → r ≡ r'
+judge_unique κs a r r' x x' p q = p ∙ sym q
 
-pub kept-unique : (κs : _) (a : _) (r r' : _) (x x' : _) → kept.Post κs a r x → kept.Post κs a r' x' → r ≡ r'
-kept-unique κs a r r' x x' p q = p ∙ sym q
+pub kept_unique : (κs : _) (a : _) (r r' : _) (x x' : _) → kept.Post κs a r x → kept.Post κs a r' x' → r ≡ r'
+kept_unique κs a r r' x x' p q = p ∙ sym q
 
-pub begin-unique : (κs : _) (a : _) (r r' : _) (x x' : _) → begin.Post κs a r x → begin.Post κs a r' x' → r ≡ r'
-begin-unique κs a r r' x x' p q = p ∙ sym q
+pub begin_unique : (κs : _) (a : _) (r r' : _) (x x' : _) → begin.Post κs a r x → begin.Post κs a r' x' → r ≡ r'
+begin_unique κs a r r' x x' p q = p ∙ sym q
 
-pub next-unique : (κs : _) (a : _) (r r' : _) (x x' : _) → next.Post κs a r x → next.Post κs a r' x' → (r ≡ r') × (x.1.0.now ≡ x'.1.0.now)
-next-unique κs a r r' x x' p q = (p.0 ∙ sym q.0, p.1 ∙ sym q.1)
+pub next_unique : (κs : _) (a : _) (r r' : _) (x x' : _) → next.Post κs a r x → next.Post κs a r' x' → (r ≡ r') × (x.1.0.now ≡ x'.1.0.now)
+next_unique κs a r r' x x' p q = (p.0 ∙ sym q.0, p.1 ∙ sym q.1)
 
-pub one-more-unique : (κs : _) (a : _) (r r' : _) (x x' : _) → one_more.Post κs a r x → one_more.Post κs a r' x' → r ≡ r'
-one-more-unique κs a r r' x x' p q = p ∙ sym q
+pub one_more_unique : (κs : _) (a : _) (r r' : _) (x x' : _) → one_more.Post κs a r x → one_more.Post κs a r' x' → r ≡ r'
+one_more_unique κs a r r' x x' p q = p ∙ sym q
 
-pub inside-unique : (κs : _) (a : _) (r r' : _) (x x' : _) → inside.Post κs a r x → inside.Post κs a r' x' → r ≡ r'
-inside-unique κs a r r' x x' p q = p ∙ sym q
+pub inside_unique : (κs : _) (a : _) (r r' : _) (x x' : _) → inside.Post κs a r x → inside.Post κs a r' x' → r ≡ r'
+inside_unique κs a r r' x x' p q = p ∙ sym q
 
-pub finish-unique : (κs : _) (a : _) (r r' : _) (x x' : _) → finish.Post κs a r x → finish.Post κs a r' x' → r ≡ r'
-finish-unique κs a r r' x x' p q = p ∙ sym q
+pub finish_unique : (κs : _) (a : _) (r r' : _) (x x' : _) → finish.Post κs a r x → finish.Post κs a r' x' → r ≡ r'
+finish_unique κs a r r' x x' p q = p ∙ sym q
 
-pub frame-unique : (κs : _) (a : _) (r r' : _) (x x' : _) → frame.Post κs a r x → frame.Post κs a r' x' → (r ≡ r') × (x.0.now ≡ x'.0.now)
-frame-unique κs a r r' x x' p q = (p.says ∙ sym q.says, p.list ∙ sym q.list)
+pub frame_unique : (κs : _) (a : _) (r r' : _) (x x' : _) → frame.Post κs a r x → frame.Post κs a r' x' → (r ≡ r') × (x.0.now ≡ x'.0.now)
+frame_unique κs a r r' x x' p q = (p.says ∙ sym q.says, p.list ∙ sym q.list)
 
-pub note-unique : (κs : _) (a : _) (r r' : _) (x x' : _) → note.Post κs a r x → note.Post κs a r' x' → (r ≡ r') × (x.0.now ≡ x'.0.now)
-note-unique κs a r r' x x' p q = (p.says ∙ sym q.says, p.list ∙ sym q.list)
+pub note_unique : (κs : _) (a : _) (r r' : _) (x x' : _) → note.Post κs a r x → note.Post κs a r' x' → (r ≡ r') × (x.0.now ≡ x'.0.now)
+note_unique κs a r r' x x' p q = (p.says ∙ sym q.says, p.list ∙ sym q.list)
 
-pub start-unique : (κs : _) (a : _) (r r' : _) (x x' : _) → start.Post κs a r x → start.Post κs a r' x' → (r ≡ r') × (x.0.now ≡ x'.0.now)
-start-unique κs a r r' x x' p q = (p.says ∙ sym q.says, p.list ∙ sym q.list)
+pub start_unique : (κs : _) (a : _) (r r' : _) (x x' : _) → start.Post κs a r x → start.Post κs a r' x' → (r ≡ r') × (x.0.now ≡ x'.0.now)
+start_unique κs a r r' x x' p q = (p.says ∙ sym q.says, p.list ∙ sym q.list)

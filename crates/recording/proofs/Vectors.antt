@@ -2,16 +2,16 @@
 use Prim.Native.Nat.{ℕ}
 use mathlib.Core.Path.{◌≡◌, refl}
 use mathlib.Core.List.{List, [], ◌∷◌, ◌++◌}
-use Rattle.recording.specs.File.{listingOf, complete, along, fields_of, left_of, frameFound, noteFound, start_in, startFound, verdict, keeps, findingsOf}
+use Rattle.recording.specs.File.{listing_of, complete, along, fields_of, left_of, frame_found, note_found, start_in, start_found, verdict, keeps, findings_of}
 use Rattle.recording.specs.declared.field.Found.{Found}
 use Rattle.recording.specs.declared.field.Found.TheVariants as Found
 use Rattle.codec.specs.Number.{word, word_at, fits}
-use Rattle.codec.specs.Header.{readHeader}
-use Rattle.reader.specs.Frame.{judgeOf}
+use Rattle.codec.specs.Header.{read_header}
+use Rattle.reader.specs.Frame.{judge_of}
 
 -- an empty file
-pub empty : listingOf [] ≡ record { findings = []; answer = 0; skipped = 0 }
-unfolding listingOf findingsOf fields_of left_of along
+pub empty : listing_of [] ≡ record { findings = []; answer = 0; skipped = 0 }
+unfolding listing_of findings_of fields_of left_of along
 empty = refl
 
 -- a note "ok", a tag 9 of one byte, an empty note, a start at 5 s and 1 ns, then a frame field of which 3 of 5 bytes are there
@@ -20,7 +20,7 @@ small =
     (2 ∷ 0 ∷ 2 ∷ 111 ∷ 107 ∷ []) ++ (9 ∷ 0 ∷ 1 ∷ 7 ∷ []) ++ (2 ∷ 0 ∷ 0 ∷ [])
     ++ (3 ∷ 0 ∷ 10 ∷ 0 ∷ 0 ∷ 0 ∷ 0 ∷ 0 ∷ 5 ∷ 0 ∷ 0 ∷ 0 ∷ 1 ∷ []) ++ (1 ∷ 0 ∷ 5 ∷ 1 ∷ 2 ∷ 3 ∷ [])
 
-pub small-lists : listingOf small
+pub small_lists : listing_of small
     ≡ record {
       findings =
           record { tag = 2; size = 2; found = Found.Note; body = 111 ∷ 107 ∷ [] }
@@ -31,11 +31,11 @@ pub small-lists : listingOf small
       answer = 40;
       skipped = 1;
     }
-unfolding listingOf findingsOf fields_of left_of along complete verdict noteFound startFound start_in keeps word word_at fits
-small-lists = refl
+unfolding listing_of findings_of fields_of left_of along complete verdict note_found start_found start_in keeps word word_at fits
+small_lists = refl
 
 -- refusals: a frame of four bytes is too short, a start of nine bytes, a start of 1,000,000,000 ns; the next field is judged as if alone
-pub refused-list : listingOf ((1 ∷ 0 ∷ 4 ∷ 1 ∷ 0 ∷ 0 ∷ 0 ∷ []) ++ (3 ∷ 0 ∷ 9 ∷ 0 ∷ 0 ∷ 0 ∷ 0 ∷ 0 ∷ 0 ∷ 0 ∷ 0 ∷ 0 ∷ [])
+pub refused_list : listing_of ((1 ∷ 0 ∷ 4 ∷ 1 ∷ 0 ∷ 0 ∷ 0 ∷ []) ++ (3 ∷ 0 ∷ 9 ∷ 0 ∷ 0 ∷ 0 ∷ 0 ∷ 0 ∷ 0 ∷ 0 ∷ 0 ∷ 0 ∷ [])
     ++ (3 ∷ 0 ∷ 10 ∷ 0 ∷ 0 ∷ 0 ∷ 0 ∷ 0 ∷ 0 ∷ 59 ∷ 154 ∷ 202 ∷ 0 ∷ []) ++ (2 ∷ 0 ∷ 1 ∷ 33 ∷ []))
     ≡ record {
       findings =
@@ -47,27 +47,27 @@ pub refused-list : listingOf ((1 ∷ 0 ∷ 4 ∷ 1 ∷ 0 ∷ 0 ∷ 0 ∷ []) ++ 
       answer = 0;
       skipped = 0;
     }
-unfolding listingOf findingsOf fields_of left_of along complete verdict frameFound noteFound startFound start_in keeps word word_at fits judgeOf readHeader
-refused-list = refl
+unfolding listing_of findings_of fields_of left_of along complete verdict frame_found note_found start_found start_in keeps word word_at fits judge_of read_header
+refused_list = refl
 
 -- lengths: 1,472 is a note and 1,473 is not, whatever the bytes; a frame of 1,473 bytes is 41 and never read; a start of 1,473 bytes is 42
-pub long-note : verdict 2 1472 [] ≡ Found.Note
-unfolding verdict noteFound
-long-note = refl
+pub long_note : verdict 2 1472 [] ≡ Found.Note
+unfolding verdict note_found
+long_note = refl
 
-pub longer-note : verdict 2 1473 [] ≡ Found.Refused 41
-unfolding verdict noteFound
-longer-note = refl
+pub longer_note : verdict 2 1473 [] ≡ Found.Refused 41
+unfolding verdict note_found
+longer_note = refl
 
-pub longer-frame : (body : List ℕ) → verdict 1 1473 body ≡ Found.Refused 41
-unfolding verdict frameFound
-longer-frame body = refl
+pub longer_frame : (body : List ℕ) → verdict 1 1473 body ≡ Found.Refused 41
+unfolding verdict frame_found
+longer_frame body = refl
 
-pub longer-start : (body : List ℕ) → verdict 3 1473 body ≡ Found.Refused 42
-unfolding verdict startFound
-longer-start body = refl
+pub longer_start : (body : List ℕ) → verdict 3 1473 body ≡ Found.Refused 42
+unfolding verdict start_found
+longer_start body = refl
 
 -- a field of 1,473 bytes that the end cuts short gets 40 only
-pub cut-only : listingOf (1 ∷ 5 ∷ 193 ∷ 0 ∷ []) ≡ record { findings = []; answer = 40; skipped = 0 }
-unfolding listingOf findingsOf fields_of left_of along complete
-cut-only = refl
+pub cut_only : listing_of (1 ∷ 5 ∷ 193 ∷ 0 ∷ []) ≡ record { findings = []; answer = 40; skipped = 0 }
+unfolding listing_of findings_of fields_of left_of along complete
+cut_only = refl

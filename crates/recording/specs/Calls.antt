@@ -2,7 +2,7 @@
 use Rattle.std.specs.Prelude.{ℕ, zero, suc, List, [], ◌∷◌, ◌++◌, length, take, drop, eqb}
 use Rattle.codec.specs.Choice.{pick}
 use Rattle.recording.specs.File.{Finding, Listing, keeps}
-use Rattle.recording.specs.Pieces.{fresh, next_of, keptOf, finishOf}
+use Rattle.recording.specs.Pieces.{fresh, next_of, kept_of, finish_of}
 use Rattle.recording.specs.declared.field.Field.{Field}
 use Rattle.recording.specs.declared.pieces.Place.{Place}
 use Rattle.recording.specs.declared.pieces.Seen.{Seen}
@@ -27,27 +27,27 @@ noted (Seen.Field f) buffer =
 noted Seen.More buffer = []
 
 -- at most n calls on the rest of a piece
-unfoldable pub onPiece : ℕ → Place → List ℕ → List ℕ → Ran
-onPiece zero p buffer piece = none p buffer
-onPiece (suc n) p buffer piece =
+unfoldable pub on_piece : ℕ → Place → List ℕ → List ℕ → Ran
+on_piece zero p buffer piece = none p buffer
+on_piece (suc n) p buffer piece =
     pick (eqb (length piece) 0) (none p buffer)
-    (before (noted (next_of p buffer piece).seen (keptOf p buffer piece))
-    (onPiece n (next_of p buffer piece).place (keptOf p buffer piece) (drop (next_of p buffer piece).used piece)))
+    (before (noted (next_of p buffer piece).seen (kept_of p buffer piece))
+    (on_piece n (next_of p buffer piece).place (kept_of p buffer piece) (drop (next_of p buffer piece).used piece)))
 
 -- each call uses a byte at least, so a piece takes no more calls than it has bytes
-unfoldable pub onPieces : Place → List ℕ → List (List ℕ) → Ran
-onPieces p buffer [] = none p buffer
-onPieces p buffer (t ∷ ts) =
-    before (onPiece (length t) p buffer t).findings
-    (onPieces (onPiece (length t) p buffer t).place (onPiece (length t) p buffer t).buffer ts)
+unfoldable pub on_pieces : Place → List ℕ → List (List ℕ) → Ran
+on_pieces p buffer [] = none p buffer
+on_pieces p buffer (t ∷ ts) =
+    before (on_piece (length t) p buffer t).findings
+    (on_pieces (on_piece (length t) p buffer t).place (on_piece (length t) p buffer t).buffer ts)
 
 -- all that the calls tell, the input being over
-abbrev pub toldOf : Ran → Listing
-toldOf r = record { findings = r.findings; answer = finishOf r.place; skipped = r.place.skipped }
+abbrev pub told_of : Ran → Listing
+told_of r = record { findings = r.findings; answer = finish_of r.place; skipped = r.place.skipped }
 
 -- from the start of a file
 abbrev pub in_pieces : List ℕ → List (List ℕ) → Listing
-in_pieces buffer ts = toldOf (onPieces (fresh 0) buffer ts)
+in_pieces buffer ts = told_of (on_pieces (fresh 0) buffer ts)
 
 -- the file that pieces are
 abbrev pub join : List (List ℕ) → List ℕ

@@ -1,7 +1,7 @@
 -- What writing and listing make of each other.
 use Rattle.std.specs.Prelude.{ℕ, ◌≡◌, Bool, true, false, List, [], ◌∷◌, ◌++◌}
 use Rattle.recording.specs.File.{Raw, Finding}
-use Rattle.recording.specs.Write.{fieldBytes, startBytes}
+use Rattle.recording.specs.Write.{field_bytes, start_bytes}
 use Rattle.recording.specs.declared.field.Found.{Found}
 use Rattle.recording.specs.declared.field.Found.TheVariants as Found
 
@@ -26,24 +26,24 @@ AllGood [] = Unit
 AllGood (f ∷ fs) = (good f.found ≡ true) × AllGood fs
 
 -- a field's bytes, and those of fields one after another
-abbrev pub rawBytes : Raw → List ℕ
-rawBytes f = fieldBytes f.tag f.body
+abbrev pub raw_bytes : Raw → List ℕ
+raw_bytes f = field_bytes f.tag f.body
 
-abbrev pub fileOf : List Raw → List ℕ
-fileOf [] = []
-fileOf (f ∷ fs) = rawBytes f ++ fileOf fs
+abbrev pub file_of : List Raw → List ℕ
+file_of [] = []
+file_of (f ∷ fs) = raw_bytes f ++ file_of fs
 
 -- the bytes that the writer lays for what was listed
-abbrev pub againBy : Found → List ℕ → List ℕ
-againBy (Found.Frame h) body = fieldBytes 1 body
-againBy Found.Note body = fieldBytes 2 body
-againBy (Found.Start t) body = fieldBytes 3 (startBytes t)
-againBy (Found.Refused answer) body = []
-againBy Found.Skipped body = []
+abbrev pub again_by : Found → List ℕ → List ℕ
+again_by (Found.Frame h) body = field_bytes 1 body
+again_by Found.Note body = field_bytes 2 body
+again_by (Found.Start t) body = field_bytes 3 (start_bytes t)
+again_by (Found.Refused answer) body = []
+again_by Found.Skipped body = []
 
 abbrev pub again : Finding → List ℕ
-again f = againBy f.found f.body
+again f = again_by f.found f.body
 
-abbrev pub againAll : List Finding → List ℕ
-againAll [] = []
-againAll (f ∷ fs) = again f ++ againAll fs
+abbrev pub again_all : List Finding → List ℕ
+again_all [] = []
+again_all (f ∷ fs) = again f ++ again_all fs

@@ -1,6 +1,6 @@
 // One field of a recording, judged by its own bytes.
 ghost use Rattle.std.specs.Prelude.{◌≡◌};
-ghost use Rattle.recording.specs.File.{frameFound, noteFound, start_in, startFound, verdict, keeps};
+ghost use Rattle.recording.specs.File.{frame_found, note_found, start_in, start_found, verdict, keeps};
 
 use codec::header::Header;
 use codec::time::Time;
@@ -25,7 +25,7 @@ pub struct Field {
 }
 
 fn frame(length: u16, body: &[u8]) -> Found
-    ensures { result ≡ frameFound length body.now }
+    ensures { result ≡ frame_found length body.now }
 {
     if 1472 < length {
         return Found::Refused(41);
@@ -37,7 +37,7 @@ fn frame(length: u16, body: &[u8]) -> Found
 }
 
 fn note(length: u16) -> Found
-    ensures { result ≡ noteFound length }
+    ensures { result ≡ note_found length }
 {
     if 1472 < length {
         Found::Refused(41)
@@ -57,7 +57,7 @@ fn start_in(body: &[u8]) -> Time
 }
 
 fn start(length: u16, body: &[u8]) -> Found
-    ensures { result ≡ startFound length body.now }
+    ensures { result ≡ start_found length body.now }
 {
     if length != 10 {
         return Found::Refused(42);

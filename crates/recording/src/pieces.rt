@@ -2,7 +2,7 @@
 // buffer the body of the field under way, where its verdict needs it.
 ghost use Rattle.std.specs.Prelude.{◌≡◌, ◌+◌, ◌-◌, min};
 ghost use Rattle.codec.specs.Number.{Below};
-ghost use Rattle.recording.specs.Pieces.{fresh, length_of, size_of, soundOf, headByte, headedOf, usedOf, part_of, bufferOf, foundOf, counted, done_of, endsOf, next_of, keptOf, finishOf};
+ghost use Rattle.recording.specs.Pieces.{fresh, length_of, size_of, sound_of, head_byte, headed_of, used_of, part_of, buffer_of, found_of, counted, done_of, ends_of, next_of, kept_of, finish_of};
 
 use crate::field::{Field, Found};
 
@@ -65,7 +65,7 @@ fn size_of(p: Place) -> usize
 
 // Reading never stops at the end of a field. A place that says so counts as one between two fields.
 fn sound(p: Place) -> Place
-    ensures { result ≡ soundOf p }
+    ensures { result ≡ sound_of p }
 {
     if p.past < size_of(p) {
         p
@@ -76,7 +76,7 @@ fn sound(p: Place) -> Place
 
 // Byte k of tag and length: as it was read before, or from the piece.
 fn head_byte(k: usize, past: usize, old: u8, piece: &[u8]) -> u8
-    ensures { result ≡ headByte k past old piece.now }
+    ensures { result ≡ head_byte k past old piece.now }
 {
     if k < past {
         return old;
@@ -89,7 +89,7 @@ fn head_byte(k: usize, past: usize, old: u8, piece: &[u8]) -> u8
 }
 
 fn headed(p: Place, piece: &[u8]) -> Place
-    ensures { result ≡ headedOf p piece.now }
+    ensures { result ≡ headed_of p piece.now }
 {
     let past = p.past;
     Place {
@@ -103,7 +103,7 @@ fn headed(p: Place, piece: &[u8]) -> Place
 
 // How many of n bytes belong to the field under way.
 fn used(p: Place, n: usize) -> usize
-    ensures { result ≡ usedOf p n }
+    ensures { result ≡ used_of p n }
 {
     let size = size_of(p);
     let past = p.past;
@@ -141,7 +141,7 @@ fn part(p: Place, piece: &[u8]) -> &[u8]
 
 // They go after those that were kept before.
 fn keep(p: Place, buffer: &mut [u8], piece: &[u8])
-    ensures { buffer.new ≡ bufferOf p buffer.old piece.now }
+    ensures { buffer.new ≡ buffer_of p buffer.old piece.now }
 {
     if crate::field::kept(p.tag, length_of(p)) {
         codec::number::put_bytes(buffer, body_read(p.past), part(p, piece));
@@ -149,7 +149,7 @@ fn keep(p: Place, buffer: &mut [u8], piece: &[u8])
 }
 
 fn found(p: Place, buffer: &[u8]) -> Found
-    ensures { result ≡ foundOf p buffer.now }
+    ensures { result ≡ found_of p buffer.now }
 {
     let n = length_of(p);
     crate::field::judge(p.tag, n, codec::field::part_at(buffer, 0, n as usize))
@@ -193,7 +193,7 @@ fn done(p: Place, n: usize, found: Found) -> Step
 }
 
 fn ends(p: Place, n: usize, buffer: &[u8]) -> Step
-    ensures { result ≡ endsOf p n buffer.now }
+    ensures { result ≡ ends_of p n buffer.now }
 {
     let size = size_of(p);
     let past = p.past;
@@ -218,7 +218,7 @@ fn ends(p: Place, n: usize, buffer: &[u8]) -> Step
 
 fn advance(place: Place, buffer: &mut [u8], piece: &[u8]) -> Step
     ensures value { result ≡ next_of place buffer.old piece.now }
-    ensures buffer_after { buffer.new ≡ keptOf place buffer.old piece.now }
+    ensures buffer_after { buffer.new ≡ kept_of place buffer.old piece.now }
 {
     let p = headed(sound(place), piece);
     keep(p, buffer, piece);
@@ -229,14 +229,14 @@ fn advance(place: Place, buffer: &mut [u8], piece: &[u8]) -> Step
 // that was kept is the front of the buffer.
 pub fn next(place: Place, buffer: &mut [u8; 1472], piece: &[u8]) -> Step
     ensures value { result ≡ next_of place buffer.old piece.now }
-    ensures buffer_after { buffer.new ≡ keptOf place buffer.old piece.now }
+    ensures buffer_after { buffer.new ≡ kept_of place buffer.old piece.now }
 {
     advance(place, buffer, piece)
 }
 
 // How many bytes of the field under way were read, tag and length among them: none between two fields.
 pub fn inside(place: Place) -> usize
-    ensures { result ≡ (soundOf place).past }
+    ensures { result ≡ (sound_of place).past }
 {
     let p = sound(place);
     p.past
@@ -244,7 +244,7 @@ pub fn inside(place: Place) -> usize
 
 // The answer at the end of the input: 0, or 40 inside a field.
 pub fn finish(place: Place) -> u8
-    ensures { result ≡ finishOf place }
+    ensures { result ≡ finish_of place }
 {
     let p = sound(place);
     if p.past == 0 { 0 } else { 40 }

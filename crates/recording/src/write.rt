@@ -1,6 +1,6 @@
 // Writes a field into a lent output at an index: the whole of it, or nothing.
 ghost use Rattle.std.specs.Prelude.{◌≡◌, length};
-ghost use Rattle.recording.specs.Write.{Recorded, fieldBytes, frameAnswer, noteAnswer, startAnswer, startBytes};
+ghost use Rattle.recording.specs.Write.{Recorded, field_bytes, frame_answer, note_answer, start_answer, start_bytes};
 
 use codec::time::Time;
 
@@ -12,7 +12,7 @@ pub enum Written {
 }
 
 fn put_field(out: &mut [u8], at: usize, tag: u8, body: &[u8]) -> Written
-    ensures { Recorded 0 out.old at (fieldBytes tag body.now) out.new result }
+    ensures { Recorded 0 out.old at (field_bytes tag body.now) out.new result }
 {
     let n = body.len();
     let room = out.len();
@@ -35,7 +35,7 @@ fn put_field(out: &mut [u8], at: usize, tag: u8, body: &[u8]) -> Written
 
 // A frame that the reader refuses is not recorded, so that a recording lists clean.
 pub fn frame(out: &mut [u8], at: usize, body: &[u8]) -> Written
-    ensures { Recorded (frameAnswer body.now) out.old at (fieldBytes 1 body.now) out.new result }
+    ensures { Recorded (frame_answer body.now) out.old at (field_bytes 1 body.now) out.new result }
 {
     if 1472 < body.len() {
         return Written::Refused(41);
@@ -48,7 +48,7 @@ pub fn frame(out: &mut [u8], at: usize, body: &[u8]) -> Written
 }
 
 pub fn note(out: &mut [u8], at: usize, body: &[u8]) -> Written
-    ensures { Recorded (noteAnswer body.now) out.old at (fieldBytes 2 body.now) out.new result }
+    ensures { Recorded (note_answer body.now) out.old at (field_bytes 2 body.now) out.new result }
 {
     if 1472 < body.len() {
         return Written::Refused(41);
@@ -58,7 +58,7 @@ pub fn note(out: &mut [u8], at: usize, body: &[u8]) -> Written
 
 fn lay_start(body: &mut [u8], t: Time)
     requires { length body.old ≡ 10 }
-    ensures { body.new ≡ startBytes t }
+    ensures { body.new ≡ start_bytes t }
 {
     codec::number::put_be(body, 0, t.sec, 6);
     codec::number::put_be(body, 6, t.nano as u64, 4);
@@ -66,7 +66,7 @@ fn lay_start(body: &mut [u8], t: Time)
 
 // A microphone's start.
 pub fn start(out: &mut [u8], at: usize, t: Time) -> Written
-    ensures { Recorded (startAnswer t) out.old at (fieldBytes 3 (startBytes t)) out.new result }
+    ensures { Recorded (start_answer t) out.old at (field_bytes 3 (start_bytes t)) out.new result }
 {
     if !codec::time::in_range(t) {
         return Written::Refused(42);

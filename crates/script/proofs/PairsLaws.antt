@@ -13,19 +13,19 @@ use Rattle.codec.specs.Choice.{pick}
 use Rattle.codec.proofs.Opened.{chosen, never}
 use Rattle.text.specs.Line.{ahead, Found, split, words_of}
 use Rattle.text.proofs.LineLaws.{cut, whole}
-use Rattle.script.specs.Word.{narrowOf}
-use Rattle.script.specs.Pairs.{past_of, allNumbers, numbersOf, Stored, Gathered}
+use Rattle.script.specs.Word.{narrow_of}
+use Rattle.script.specs.Pairs.{past_of, all_numbers, numbers_of, Stored, Gathered}
 use Rattle.script.specs.declared.word.Narrow.TheVariants as Narrow
 use Rattle.script.specs.declared.pairs.Pairs.TheVariants as Pairs
 
 -- after the first space
-pub past-none : {s : List ℕ} {n : ℕ} → Found s 32 n → length s ≤ n → [] ≡ past_of s
+pub past_none : {s : List ℕ} {n : ℕ} → Found s 32 n → length s ≤ n → [] ≡ past_of s
 unfolding past_of
-past-none {s} {n} f h = let k : length s ≤ suc (ahead 32 s) = omega (arith, f.is) in sym (drop_of_length-le s k)
+past_none {s} {n} f h = let k : length s ≤ suc (ahead 32 s) = omega (arith, f.is) in sym (drop_of_length-le s k)
 
-pub past-some : {s : List ℕ} {n : ℕ} → Found s 32 n → n < length s → take (length s - (n + 1)) (drop (n + 1) s) ≡ past_of s
+pub past_some : {s : List ℕ} {n : ℕ} → Found s 32 n → n < length s → take (length s - (n + 1)) (drop (n + 1) s) ≡ past_of s
 unfolding past_of
-past-some {s} {n} f h =
+past_some {s} {n} f h =
     take_all (length s - (n + 1)) (drop (n + 1) s) (omega (arith, length-drop (n + 1) s)) ∙ ap (λ (k : ℕ). drop k s) (add-one n ∙ ap suc f.is)
 
 -- one word fewer
@@ -45,17 +45,17 @@ past_words ws s k e h = go (ltb (ahead 32 s) (length s)) refl
 unfoldable pub left_of : List ℕ → ℕ → List (List ℕ)
 left_of s at = pick (leb at (length s)) (split (drop at s)) []
 
-left-first : (s : List ℕ) → left_of s 0 ≡ split s
+left_first : (s : List ℕ) → left_of s 0 ≡ split s
 unfolding left_of
-left-first s = rw (le-leb 0 (length s) (omega arith))
+left_first s = rw (le-leb 0 (length s) (omega arith))
 
 left_end : (s : List ℕ) (at : ℕ) → length s < at → left_of s at ≡ []
 unfolding left_of
 left_end s at h = rw (lt-leb at (length s) h)
 
-left-more : (s : List ℕ) (at : ℕ) → at ≤ length s → left_of s at ≡ take (ahead 32 (drop at s)) (drop at s) ∷ left_of s (at + ahead 32 (drop at s) + 1)
+left_more : (s : List ℕ) (at : ℕ) → at ≤ length s → left_of s at ≡ take (ahead 32 (drop at s)) (drop at s) ∷ left_of s (at + ahead 32 (drop at s) + 1)
 unfolding left_of
-left-more s at h = go (ltb n (length rest)) refl
+left_more s at h = go (ltb n (length rest)) refl
   where
     rest : List ℕ
     rest = drop at s
@@ -80,12 +80,12 @@ left-more s at h = go (ltb n (length rest)) refl
 pub record Gathering (s l out : List ℕ) (at i : ℕ) : Type 0 where
   pub most : at ≤ length s + 1
   pub room : i ≤ 18
-  pub good : allNumbers (split s) ≡ allNumbers (left_of s at)
-  pub count : length (take 18 (numbersOf (split s))) ≡ i + length (take (18 - i) (numbersOf (left_of s at)))
-  pub list : sets l 0 (take 18 (numbersOf (split s))) ≡ sets out i (take (18 - i) (numbersOf (left_of s at)))
+  pub good : all_numbers (split s) ≡ all_numbers (left_of s at)
+  pub count : length (take 18 (numbers_of (split s))) ≡ i + length (take (18 - i) (numbers_of (left_of s at)))
+  pub list : sets l 0 (take 18 (numbers_of (split s))) ≡ sets out i (take (18 - i) (numbers_of (left_of s at)))
 
-pub gathering-first : (s l : List ℕ) → Gathering s l l 0 0
-gathering-first s l = let e = left-first s in record { most = omega arith; room = omega arith; good = rw e; count = rw e (omega arith); list = rw e }
+pub gathering_first : (s l : List ℕ) → Gathering s l l 0 0
+gathering_first s l = let e = left_first s in record { most = omega arith; room = omega arith; good = rw e; count = rw e (omega arith); list = rw e }
 
 -- what stands ahead of the next space
 next_word : (s : List ℕ) (at n : ℕ) → at ≤ length s → Found (take (length s - at) (drop at s)) 32 n
@@ -93,19 +93,19 @@ next_word : (s : List ℕ) (at n : ℕ) → at ≤ length s → Found (take (len
 next_word s at n h f =
     let e : take (length s - at) (drop at s) ≡ drop at s = take_all (length s - at) (drop at s) (omega (arith, length-drop at s)) in
     let k : n ≡ ahead 32 (drop at s) = f.is ∙ ap (ahead 32) e in
-    rw (e, k) (left-more s at h)
+    rw (e, k) (left_more s at h)
 
 -- one more number of at most 18
 module _ (i v : ℕ) (vs : List ℕ) (h : i ≤ 18) (j : ℕ) (e : j ≡ pick (ltb i 18) (i + 1) i) where
-  store-room : j ≤ 18
-  store-room = go (ltb i 18) refl
+  store_room : j ≤ 18
+  store_room = go (ltb i 18) refl
     where
       go : (t : Bool) → ltb i 18 ≡ t → j ≤ 18
       go true t = let k = ltb-true i 18 t in let q : j ≡ i + 1 = e ∙ rw t in omega arith
       go false t = let q : j ≡ i = e ∙ rw t in omega arith
 
-  store-count : i + length (take (18 - i) (v ∷ vs)) ≡ j + length (take (18 - j) vs)
-  store-count = go (ltb i 18) refl
+  store_count : i + length (take (18 - i) (v ∷ vs)) ≡ j + length (take (18 - j) vs)
+  store_count = go (ltb i 18) refl
     where
       go : (t : Bool) → ltb i 18 ≡ t → i + length (take (18 - i) (v ∷ vs)) ≡ j + length (take (18 - j) vs)
       go true t =
@@ -119,8 +119,8 @@ module _ (i v : ℕ) (vs : List ℕ) (h : i ≤ 18) (j : ℕ) (e : j ≡ pick (l
           let z : 18 - i ≡ 0 = omega arith in
           rw (q, z)
 
-  store-list : (l m : List ℕ) → m ≡ pick (ltb i 18) (set l i v) l → sets l i (take (18 - i) (v ∷ vs)) ≡ sets m j (take (18 - j) vs)
-  store-list l m f = go (ltb i 18) refl
+  store_list : (l m : List ℕ) → m ≡ pick (ltb i 18) (set l i v) l → sets l i (take (18 - i) (v ∷ vs)) ≡ sets m j (take (18 - j) vs)
+  store_list l m f = go (ltb i 18) refl
     where
       go : (t : Bool) → ltb i 18 ≡ t → sets l i (take (18 - i) (v ∷ vs)) ≡ sets m j (take (18 - j) vs)
       go true t =
@@ -137,38 +137,38 @@ module _ (i v : ℕ) (vs : List ℕ) (h : i ≤ 18) (j : ℕ) (e : j ≡ pick (l
           rw (q, z, p)
 
 module _ {s l out : List ℕ} {at i : ℕ} (g : Gathering s l out at i) where
-  pub gathering-end : length s < at → Gathered (split s) l out (Pairs.Are i)
-  gathering-end h =
+  pub gathering_end : length s < at → Gathered (split s) l out (Pairs.Are i)
+  gathering_end h =
       let p = left_end s at h in
-      let k : take (18 - i) (numbersOf (left_of s at)) ≡ [] = rw p (take-nil (18 - i)) in
-      let c : length (take 18 (numbersOf (split s))) ≡ i = g.count ∙ rw k (omega arith) in
-      let t : allNumbers (split s) ≡ true = g.good ∙ rw p in
+      let k : take (18 - i) (numbers_of (left_of s at)) ≡ [] = rw p (take-nil (18 - i)) in
+      let c : length (take 18 (numbers_of (split s))) ≡ i = g.count ∙ rw k (omega arith) in
+      let t : all_numbers (split s) ≡ true = g.good ∙ rw p in
       record {
         list = sym (g.list ∙ ap (sets out i) k);
         answer = rw (t, c);
       }
 
   module _ {n : ℕ} (h : at ≤ length s) (f : Found (take (length s - at) (drop at s)) 32 n) where
-    pub gathering-more : {v j : ℕ} {m : List ℕ} → narrowOf (take n (take (length s - at) (drop at s))) ≡ Narrow.Is v → Stored out i v m j → Gathering s l m (at + n + 1) j
+    pub gathering-more : {v j : ℕ} {m : List ℕ} → narrow_of (take n (take (length s - at) (drop at s))) ≡ Narrow.Is v → Stored out i v m j → Gathering s l m (at + n + 1) j
     gathering-more {v} {j} {m} e w =
         let p = next_word s at n h f in
-        let vs = numbersOf (left_of s (at + n + 1)) in
+        let vs = numbers_of (left_of s (at + n + 1)) in
         let d = length-drop at s in
         let t = length-take (length s - at) (drop at s) in
         let q = f.most in
         record {
           most = omega arith;
-          room = store-room i v vs g.room j w.next;
+          room = store_room i v vs g.room j w.next;
           good = g.good ∙ rw (p, e);
-          count = g.count ∙ rw (p, e) (store-count i v vs g.room j w.next);
-          list = g.list ∙ rw (p, e) (store-list i v vs g.room j w.next out m w.list);
+          count = g.count ∙ rw (p, e) (store_count i v vs g.room j w.next);
+          list = g.list ∙ rw (p, e) (store_list i v vs g.room j w.next out m w.list);
         }
 
-    pub gathering-bad : narrowOf (take n (take (length s - at) (drop at s))) ≡ Narrow.Bad → Gathered (split s) l out Pairs.Bad
+    pub gathering-bad : narrow_of (take n (take (length s - at) (drop at s))) ≡ Narrow.Bad → Gathered (split s) l out Pairs.Bad
     gathering-bad e =
         let p = next_word s at n h f in
-        let k : take (18 - i) (numbersOf (left_of s at)) ≡ [] = rw (p, e) (take-nil (18 - i)) in
-        let t : allNumbers (split s) ≡ false = g.good ∙ rw (p, e) in
+        let k : take (18 - i) (numbers_of (left_of s at)) ≡ [] = rw (p, e) (take-nil (18 - i)) in
+        let t : all_numbers (split s) ≡ false = g.good ∙ rw (p, e) in
         record {
           list = sym (g.list ∙ ap (sets out i) k);
           answer = rw t;
@@ -183,10 +183,10 @@ gathered_none s {l} {n} e h =
     record { list = rw d; answer = rw d }
 
 -- past four words
-pub past-four : (s : List ℕ) {p₁ p₂ p₃ p₄ : List ℕ} {n : ℕ} → n ≡ words_of s → 4 < n → p₁ ≡ past_of s → p₂ ≡ past_of p₁ → p₃ ≡ past_of p₂ → p₄ ≡ past_of p₃
+pub past_four : (s : List ℕ) {p₁ p₂ p₃ p₄ : List ℕ} {n : ℕ} → n ≡ words_of s → 4 < n → p₁ ≡ past_of s → p₂ ≡ past_of p₁ → p₃ ≡ past_of p₂ → p₄ ≡ past_of p₃
     → split p₄ ≡ drop 4 (split s)
 unfolding words_of
-past-four s {p₁} {p₂} {p₃} {p₄} {n} e h e₁ e₂ e₃ e₄ =
+past_four s {p₁} {p₂} {p₃} {p₄} {n} e h e₁ e₂ e₃ e₄ =
     let ws = split s in
     let q₁ = ap split e₁ ∙ past_words ws s 0 refl (omega (arith, e)) in
     let q₂ = ap split e₂ ∙ past_words ws p₁ 1 q₁ (omega (arith, e)) in
@@ -194,9 +194,9 @@ past-four s {p₁} {p₂} {p₃} {p₄} {n} e h e₁ e₂ e₃ e₄ =
     ap split e₄ ∙ past_words ws p₃ 3 q₃ (omega (arith, e))
 
 -- never more than 18
-pub gathered-most : {ws : List (List ℕ)} {l l' : List ℕ} {n : ℕ} → Gathered ws l l' (Pairs.Are n) → n ≤ 18
-gathered-most {ws} {l} {l'} {n} g =
-    chosen (allNumbers ws) (Pairs.Are (length (take 18 (numbersOf ws)))) Pairs.Bad (sym g.answer) (λ z. never (cc))
+pub gathered_most : {ws : List (List ℕ)} {l l' : List ℕ} {n : ℕ} → Gathered ws l l' (Pairs.Are n) → n ≤ 18
+gathered_most {ws} {l} {l'} {n} g =
+    chosen (all_numbers ws) (Pairs.Are (length (take 18 (numbers_of ws)))) Pairs.Bad (sym g.answer) (λ z. never (cc))
     (λ t q.
-    let k : length (take 18 (numbersOf ws)) ≡ n = cc in
-    omega (arith, length-take 18 (numbersOf ws)))
+    let k : length (take 18 (numbers_of ws)) ≡ n = cc in
+    omega (arith, length-take 18 (numbers_of ws)))

@@ -14,41 +14,41 @@ use Rattle.script.proofs.tape.parse.Reads as tape-parse
 use Rattle.script.proofs.tape.is_note.Reads as is-note
 use Rattle.script.proofs.tape.note_in.Reads as note-in
 
-pub judged-unique : (κs : _) (a : _) (r r' : _) (x x' : _) → judged.Post κs a r x → judged.Post κs a r' x' → (r ≡ r') × (x.0.now ≡ x'.0.now)
-judged-unique κs a r r' x x' p q = (p.answer ∙ sym q.answer, p.list ∙ sym q.list)
+pub judged_unique : (κs : _) (a : _) (r r' : _) (x x' : _) → judged.Post κs a r x → judged.Post κs a r' x' → (r ≡ r') × (x.0.now ≡ x'.0.now)
+judged_unique κs a r r' x x' p q = (p.answer ∙ sym q.answer, p.list ∙ sym q.list)
 
-pub stepped-unique : (κs : _) (a : _) (r r' : _) (x x' : _) → stepped.Post κs a r x → stepped.Post κs a r' x' → (r ≡ r') × (x.0.now ≡ x'.0.now)
-stepped-unique κs a r r' x x' p q = (p.answer ∙ sym q.answer, p.list ∙ sym q.list)
+pub stepped_unique : (κs : _) (a : _) (r r' : _) (x x' : _) → stepped.Post κs a r x → stepped.Post κs a r' x' → (r ≡ r') × (x.0.now ≡ x'.0.now)
+stepped_unique κs a r r' x x' p q = (p.answer ∙ sym q.answer, p.list ∙ sym q.list)
 
-pub bad-unique : (κs : _) (a : _) (r r' : _) (x x' : _) → bad.Post κs a r x → bad.Post κs a r' x' → (r ≡ r') × (x.0.now ≡ x'.0.now)
-bad-unique κs a r r' x x' p q = (p.answer ∙ sym q.answer, p.list ∙ sym q.list)
+pub bad_unique : (κs : _) (a : _) (r r' : _) (x x' : _) → bad.Post κs a r x → bad.Post κs a r' x' → (r ≡ r') × (x.0.now ≡ x'.0.now)
+bad_unique κs a r r' x x' p q = (p.answer ∙ sym q.answer, p.list ∙ sym q.list)
 
-pub done-unique : (κs : _) (a : _) (r r' : _) (x x' : _) → done.Post κs a r x → done.Post κs a r' x' → (r ≡ r') × (x.0.now ≡ x'.0.now)
-done-unique κs a r r' x x' p q = (p.answer ∙ sym q.answer, p.list ∙ sym q.list)
+pub done_unique : (κs : _) (a : _) (r r' : _) (x x' : _) → done.Post κs a r x → done.Post κs a r' x' → (r ≡ r') × (x.0.now ≡ x'.0.now)
+done_unique κs a r r' x x' p q = (p.answer ∙ sym q.answer, p.list ∙ sym q.list)
 
-pub numbered-unique : (κs : _) (a : _) (r r' : _) (x x' : _) → numbered.Post κs a r x → numbered.Post κs a r' x' → (r ≡ r') × (x.0.now ≡ x'.0.now)
-numbered-unique κs a r r' x x' p q = (p.answer ∙ sym q.answer, p.list ∙ sym q.list)
+pub numbered_unique : (κs : _) (a : _) (r r' : _) (x x' : _) → numbered.Post κs a r x → numbered.Post κs a r' x' → (r ≡ r') × (x.0.now ≡ x'.0.now)
+numbered_unique κs a r r' x x' p q = (p.answer ∙ sym q.answer, p.list ∙ sym q.list)
 
-pub timed-unique : (κs : _) (a : _) (r r' : _) (x x' : _) → timed.Post κs a r x → timed.Post κs a r' x' → (r ≡ r') × (x.0.now ≡ x'.0.now)
-timed-unique κs a r r' x x' p q = (p.answer ∙ sym q.answer, p.list ∙ sym q.list)
+pub timed_unique : (κs : _) (a : _) (r r' : _) (x x' : _) → timed.Post κs a r x → timed.Post κs a r' x' → (r ≡ r') × (x.0.now ≡ x'.0.now)
+timed_unique κs a r r' x x' p q = (p.answer ∙ sym q.answer, p.list ∙ sym q.list)
 
-pub with-bytes-unique : (κs : _) (a : _) (r r' : _) (x x' : _) → with-bytes.Post κs a r x → with-bytes.Post κs a r' x' → (r ≡ r') × (x.0.now ≡ x'.0.now)
-with-bytes-unique κs a r r' x x' p q = (p.answer ∙ sym q.answer, p.list ∙ sym q.list)
+pub with_bytes_unique : (κs : _) (a : _) (r r' : _) (x x' : _) → with-bytes.Post κs a r x → with-bytes.Post κs a r' x' → (r ≡ r') × (x.0.now ≡ x'.0.now)
+with_bytes_unique κs a r r' x x' p q = (p.answer ∙ sym q.answer, p.list ∙ sym q.list)
 
-pub taken-unique : (κs : _) (a : _) (r r' : _) (x x' : _) → taken.Post κs a r x → taken.Post κs a r' x' → (r ≡ r') × (x.0.now ≡ x'.0.now)
-taken-unique κs a r r' x x' p q = (p.answer ∙ sym q.answer, p.list ∙ sym q.list)
+pub taken_unique : (κs : _) (a : _) (r r' : _) (x x' : _) → taken.Post κs a r x → taken.Post κs a r' x' → (r ≡ r') × (x.0.now ≡ x'.0.now)
+taken_unique κs a r r' x x' p q = (p.answer ∙ sym q.answer, p.list ∙ sym q.list)
 
-pub parse-unique : (κs : _) (a : _) (r r' : _) (x x' : _) → parse.Post κs a r x → parse.Post κs a r' x' → r ≡ r'
-parse-unique κs a r r' x x' p q = p ∙ sym q
+pub parse_unique : (κs : _) (a : _) (r r' : _) (x x' : _) → parse.Post κs a r x → parse.Post κs a r' x' → r ≡ r'
+parse_unique κs a r r' x x' p q = p ∙ sym q
 
-pub read-unique : (κs : _) (a : _) (r r' : _) (x x' : _) → read.Post κs a r x → read.Post κs a r' x' → (r ≡ r') × (x.1.0.now ≡ x'.1.0.now)
-read-unique κs a r r' x x' p q = (p.answer ∙ sym q.answer, p.list ∙ sym q.list)
+pub read_unique : (κs : _) (a : _) (r r' : _) (x x' : _) → read.Post κs a r x → read.Post κs a r' x' → (r ≡ r') × (x.1.0.now ≡ x'.1.0.now)
+read_unique κs a r r' x x' p q = (p.answer ∙ sym q.answer, p.list ∙ sym q.list)
 
-pub tape-parse-unique : (κs : _) (a : _) (r r' : _) (x x' : _) → tape-parse.Post κs a r x → tape-parse.Post κs a r' x' → r ≡ r'
-tape-parse-unique κs a r r' x x' p q = p ∙ sym q
+pub tape_parse_unique : (κs : _) (a : _) (r r' : _) (x x' : _) → tape-parse.Post κs a r x → tape-parse.Post κs a r' x' → r ≡ r'
+tape_parse_unique κs a r r' x x' p q = p ∙ sym q
 
-pub is-note-unique : (κs : _) (a : _) (r r' : _) (x x' : _) → is-note.Post κs a r x → is-note.Post κs a r' x' → r ≡ r'
-is-note-unique κs a r r' x x' p q = p ∙ sym q
+pub is_note_unique : (κs : _) (a : _) (r r' : _) (x x' : _) → is-note.Post κs a r x → is-note.Post κs a r' x' → r ≡ r'
+is_note_unique κs a r r' x x' p q = p ∙ sym q
 
-pub note-in-unique : (κs : _) (a : _) (r r' : _) (x x' : _) → note-in.Post κs a r x → note-in.Post κs a r' x' → r.now ≡ r'.now
-note-in-unique κs a r r' x x' p q = p ∙ sym q
+pub note_in_unique : (κs : _) (a : _) (r r' : _) (x x' : _) → note-in.Post κs a r x → note-in.Post κs a r' x' → r.now ≡ r'.now
+note_in_unique κs a r r' x x' p q = p ∙ sym q

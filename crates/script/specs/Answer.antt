@@ -2,99 +2,99 @@
 use Rattle.std.specs.Prelude.{ℕ, ◌*◌, Bool, true, false, List, [], ◌∷◌, ◌++◌, eqb}
 use Rattle.codec.specs.Choice.{pick}
 use Rattle.codec.specs.Refusal.{number_of}
-use Rattle.codec.specs.Ident.{networkType, kind_of}
+use Rattle.codec.specs.Ident.{network_type, kind_of}
 use Rattle.codec.specs.declared.time.Time.{Time}
 use Rattle.codec.specs.declared.ident.Ident.{Ident}
 use Rattle.codec.specs.declared.ident.Ident.TheVariants as Ident
 use Rattle.codec.specs.declared.item.State.{State}
 use Rattle.codec.specs.declared.item.State.TheVariants as State
 use Rattle.codec.specs.declared.item.Item.{Item}
-use Rattle.text.specs.Put.{decimalOf, hexOf}
-use Rattle.reader.specs.Answer.{judgedNumber, judgedHeader}
+use Rattle.text.specs.Put.{decimal_of, hex_of}
+use Rattle.reader.specs.Answer.{judged_number, judged_header}
 use Rattle.reader.specs.declared.frame.Judged.{Judged}
 use Rattle.reader.specs.declared.place.Stepped.{Stepped}
 use Rattle.reader.specs.declared.place.Stepped.TheVariants as Stepped
 
 -- a space (32) and a number
-unfoldable pub fieldText : ℕ → List ℕ
-fieldText v = 32 ∷ decimalOf v
+unfoldable pub field_text : ℕ → List ℕ
+field_text v = 32 ∷ decimal_of v
 
 -- a space and '-' (45) for what is not there
 abbrev pub dash : List ℕ
 dash = 32 ∷ 45 ∷ []
 
 -- SEC NANO
-unfoldable pub timeText : Time → List ℕ
-timeText t = fieldText t.sec ++ fieldText t.nano
+unfoldable pub time_text : Time → List ℕ
+time_text t = field_text t.sec ++ field_text t.nano
 
-abbrev pub stateText : State → List ℕ
-stateText (State.Byte b) = fieldText b
-stateText State.Absent = dash
+abbrev pub state_text : State → List ℕ
+state_text (State.Byte b) = field_text b
+state_text State.Absent = dash
 
 -- CHANNELS/SLOT/CYCLE
-unfoldable pub flexrayText : ℕ → ℕ → ℕ → List ℕ
-flexrayText channels slot cycle = fieldText channels ++ (47 ∷ []) ++ decimalOf slot ++ (47 ∷ []) ++ decimalOf cycle
+unfoldable pub flexray_text : ℕ → ℕ → ℕ → List ℕ
+flexray_text channels slot cycle = field_text channels ++ (47 ∷ []) ++ decimal_of slot ++ (47 ∷ []) ++ decimal_of cycle
 
 -- CHANNELS/-/- for an error without a frame
-unfoldable pub errorText : ℕ → List ℕ
-errorText channels = fieldText channels ++ (47 ∷ 45 ∷ 47 ∷ 45 ∷ [])
+unfoldable pub error_text : ℕ → List ℕ
+error_text channels = field_text channels ++ (47 ∷ 45 ∷ 47 ∷ 45 ∷ [])
 
-abbrev pub identText : Ident → List ℕ
-identText (Ident.Can key) = fieldText key
-identText (Ident.Lin pid) = fieldText pid
-identText (Ident.FlexRay channels slot cycle) = flexrayText channels slot cycle
-identText (Ident.FlexRayError channels) = errorText channels
-identText (Ident.Bare k) = dash
+abbrev pub ident_text : Ident → List ℕ
+ident_text (Ident.Can key) = field_text key
+ident_text (Ident.Lin pid) = field_text pid
+ident_text (Ident.FlexRay channels slot cycle) = flexray_text channels slot cycle
+ident_text (Ident.FlexRayError channels) = error_text channels
+ident_text (Ident.Bare k) = dash
 
-abbrev pub loadText : Bool → ℕ → List ℕ
-loadText true n = fieldText n
-loadText false n = dash
+abbrev pub load_text : Bool → ℕ → List ℕ
+load_text true n = field_text n
+load_text false n = dash
 
 -- 0 NEXT SEC NANO
-unfoldable pub placedText : ℕ → Time → List ℕ
-placedText next t = (48 ∷ []) ++ fieldText next ++ timeText t
+unfoldable pub placed_text : ℕ → Time → List ℕ
+placed_text next t = (48 ∷ []) ++ field_text next ++ time_text t
 
 -- KIND NETWORK STATE ID LENGTH
-unfoldable pub itemText : Item → ℕ → List ℕ
-itemText it n =
-    fieldText (networkType (kind_of it.ident)) ++ fieldText it.network ++ stateText it.state ++ identText it.ident
-    ++ loadText it.carries n
+unfoldable pub item_text : Item → ℕ → List ℕ
+item_text it n =
+    field_text (network_type (kind_of it.ident)) ++ field_text it.network ++ state_text it.state ++ ident_text it.ident
+    ++ load_text it.carries n
 
 -- ANSWER SEQUENCE SEC NANO DATALENGTH, all 0 beside a refusal
-unfoldable pub judgedText : Judged → List ℕ
-judgedText j =
-    decimalOf (judgedNumber j) ++ fieldText (judgedHeader j).sequence ++ timeText (judgedHeader j).time ++ fieldText (judgedHeader j).length
+unfoldable pub judged_text : Judged → List ℕ
+judged_text j =
+    decimal_of (judged_number j) ++ field_text (judged_header j).sequence ++ time_text (judged_header j).time ++ field_text (judged_header j).length
 
 -- an item, "0 end", or the refusal and eight times '-'
-abbrev pub steppedText : Stepped → List ℕ
-steppedText (Stepped.Item next time item n) = placedText next time ++ itemText item n
-steppedText Stepped.End = 48 ∷ 32 ∷ 101 ∷ 110 ∷ 100 ∷ []
-steppedText (Stepped.Refused why) = decimalOf (number_of why) ++ (dash ++ dash ++ dash ++ dash ++ dash ++ dash ++ dash ++ dash)
+abbrev pub stepped_text : Stepped → List ℕ
+stepped_text (Stepped.Item next time item n) = placed_text next time ++ item_text item n
+stepped_text Stepped.End = 48 ∷ 32 ∷ 101 ∷ 110 ∷ 100 ∷ []
+stepped_text (Stepped.Refused why) = decimal_of (number_of why) ++ (dash ++ dash ++ dash ++ dash ++ dash ++ dash ++ dash ++ dash)
 
 -- '?' (63) and the number of a line that is no call
-unfoldable pub badText : ℕ → List ℕ
-badText line = (63 ∷ []) ++ fieldText line
+unfoldable pub bad_text : ℕ → List ℕ
+bad_text line = (63 ∷ []) ++ field_text line
 
 -- ANSWER NUMBER
-unfoldable pub numberedText : ℕ → ℕ → List ℕ
-numberedText n v = decimalOf n ++ fieldText v
+unfoldable pub numbered_text : ℕ → ℕ → List ℕ
+numbered_text n v = decimal_of n ++ field_text v
 
 -- ANSWER back N
-unfoldable pub backText : ℕ → ℕ → List ℕ
-backText n back = decimalOf n ++ (32 ∷ 98 ∷ 97 ∷ 99 ∷ 107 ∷ []) ++ fieldText back
+unfoldable pub back_text : ℕ → ℕ → List ℕ
+back_text n back = decimal_of n ++ (32 ∷ 98 ∷ 97 ∷ 99 ∷ 107 ∷ []) ++ field_text back
 
 -- the same for a report or a tick whose clock was behind, else ANSWER alone
-unfoldable pub timedText : ℕ → ℕ → List ℕ
-timedText n back = pick (eqb back 0) (decimalOf n) (backText n back)
+unfoldable pub timed_text : ℕ → ℕ → List ℕ
+timed_text n back = pick (eqb back 0) (decimal_of n) (back_text n back)
 
 -- ANSWER BYTES
-unfoldable pub bytesText : ℕ → List ℕ → List ℕ
-bytesText n bs = decimalOf n ++ (32 ∷ []) ++ hexOf bs
+unfoldable pub bytes_text : ℕ → List ℕ → List ℕ
+bytes_text n bs = decimal_of n ++ (32 ∷ []) ++ hex_of bs
 
 -- ANSWER LENGTH BYTES
-unfoldable pub takenText : ℕ → ℕ → List ℕ → List ℕ
-takenText n v bs = numberedText n v ++ (32 ∷ []) ++ hexOf bs
+unfoldable pub taken_text : ℕ → ℕ → List ℕ → List ℕ
+taken_text n v bs = numbered_text n v ++ (32 ∷ []) ++ hex_of bs
 
 -- how many characters n bytes are
-abbrev pub hexSize : ℕ → ℕ
-hexSize n = pick (eqb n 0) 1 (2 * n)
+abbrev pub hex_size : ℕ → ℕ
+hex_size n = pick (eqb n 0) 1 (2 * n)

@@ -17,62 +17,62 @@ use Rattle.script.specs.declared.word.Bounds.{Bounds}
 use Rattle.script.specs.declared.word.Bounds.TheVariants as Bounds
 
 -- an answer opened: what to answer where it is bad, and what to do with what was read
-abbrev pub openNumber : {A : Type 0} → Number → A → (ℕ → A) → A
-openNumber (Number.Is v) z k = k v
-openNumber Number.Bad z k = z
+abbrev pub open_number : {A : Type 0} → Number → A → (ℕ → A) → A
+open_number (Number.Is v) z k = k v
+open_number Number.Bad z k = z
 
-abbrev pub openNarrow : {A : Type 0} → Narrow → A → (ℕ → A) → A
-openNarrow (Narrow.Is v) z k = k v
-openNarrow Narrow.Bad z k = z
+abbrev pub open_narrow : {A : Type 0} → Narrow → A → (ℕ → A) → A
+open_narrow (Narrow.Is v) z k = k v
+open_narrow Narrow.Bad z k = z
 
-abbrev pub openFlag : {A : Type 0} → Flag → A → (Bool → A) → A
-openFlag (Flag.Is b) z k = k b
-openFlag Flag.Bad z k = z
+abbrev pub open_flag : {A : Type 0} → Flag → A → (Bool → A) → A
+open_flag (Flag.Is b) z k = k b
+open_flag Flag.Bad z k = z
 
-abbrev pub openStamp : {A : Type 0} → Stamp → A → (ℕ → Time → A) → A
-openStamp (Stamp.Is source time) z k = k source time
-openStamp Stamp.Bad z k = z
+abbrev pub open_stamp : {A : Type 0} → Stamp → A → (ℕ → Time → A) → A
+open_stamp (Stamp.Is source time) z k = k source time
+open_stamp Stamp.Bad z k = z
 
-abbrev pub openShape : {A : Type 0} → Shape → A → (ℕ → ℕ → ℕ → A) → A
-openShape (Shape.Is size room deadline) z k = k size room deadline
-openShape Shape.Bad z k = z
+abbrev pub open_shape : {A : Type 0} → Shape → A → (ℕ → ℕ → ℕ → A) → A
+open_shape (Shape.Is size room deadline) z k = k size room deadline
+open_shape Shape.Bad z k = z
 
-abbrev pub openBounds : {A : Type 0} → Bounds → A → (ℕ → ℕ → ℕ → A) → A
-openBounds (Bounds.Is source a b) z k = k source a b
-openBounds Bounds.Bad z k = z
+abbrev pub open_bounds : {A : Type 0} → Bounds → A → (ℕ → ℕ → ℕ → A) → A
+open_bounds (Bounds.Is source a b) z k = k source a b
+open_bounds Bounds.Bad z k = z
 
 -- a word of 32 bits
-unfoldable pub narrowOf : List ℕ → Narrow
-narrowOf w = openNumber (number_of w 4294967295) Narrow.Bad Narrow.Is
+unfoldable pub narrow_of : List ℕ → Narrow
+narrow_of w = open_number (number_of w 4294967295) Narrow.Bad Narrow.Is
 
 -- the word of number k, of 64 bits, of 32 bits, and 0 or 1
-unfoldable pub wideAt : List ℕ → ℕ → Number
-wideAt line k = number_of (word_of line k) 18446744073709551615
+unfoldable pub wide_at : List ℕ → ℕ → Number
+wide_at line k = number_of (word_of line k) 18446744073709551615
 
-unfoldable pub narrowAt : List ℕ → ℕ → Narrow
-narrowAt line k = narrowOf (word_of line k)
+unfoldable pub narrow_at : List ℕ → ℕ → Narrow
+narrow_at line k = narrow_of (word_of line k)
 
-unfoldable pub flagAt : List ℕ → ℕ → Flag
-flagAt line k = openNumber (number_of (word_of line k) 1) Flag.Bad (λ v. Flag.Is (eqb v 1))
+unfoldable pub flag_at : List ℕ → ℕ → Flag
+flag_at line k = open_number (number_of (word_of line k) 1) Flag.Bad (λ v. Flag.Is (eqb v 1))
 
 -- S SEC NANO
-unfoldable pub stampAt : List ℕ → Stamp
-stampAt line =
-    openNumber (wideAt line 1) Stamp.Bad
-    (λ source. openNumber (wideAt line 2) Stamp.Bad
-    (λ sec. openNarrow (narrowAt line 3) Stamp.Bad
+unfoldable pub stamp_at : List ℕ → Stamp
+stamp_at line =
+    open_number (wide_at line 1) Stamp.Bad
+    (λ source. open_number (wide_at line 2) Stamp.Bad
+    (λ sec. open_narrow (narrow_at line 3) Stamp.Bad
     (λ nano. Stamp.Is source (record { sec = sec; nano = nano }))))
 
 -- F Q D
 unfoldable pub shape_at : List ℕ → Shape
 shape_at line =
-    openNumber (wideAt line 1) Shape.Bad
-    (λ size. openNumber (wideAt line 2) Shape.Bad
-    (λ room. openNumber (wideAt line 3) Shape.Bad (Shape.Is size room)))
+    open_number (wide_at line 1) Shape.Bad
+    (λ size. open_number (wide_at line 2) Shape.Bad
+    (λ room. open_number (wide_at line 3) Shape.Bad (Shape.Is size room)))
 
 -- S and two numbers
-unfoldable pub boundsAt : List ℕ → Bounds
-boundsAt line =
-    openNumber (wideAt line 1) Bounds.Bad
-    (λ source. openNarrow (narrowAt line 2) Bounds.Bad
-    (λ a. openNarrow (narrowAt line 3) Bounds.Bad (Bounds.Is source a)))
+unfoldable pub bounds_at : List ℕ → Bounds
+bounds_at line =
+    open_number (wide_at line 1) Bounds.Bad
+    (λ source. open_narrow (narrow_at line 2) Bounds.Bad
+    (λ a. open_narrow (narrow_at line 3) Bounds.Bad (Bounds.Is source a)))

@@ -2,9 +2,9 @@
 // whole of it is left as it was.
 ghost use Rattle.std.specs.Prelude.{◌≡◌, true, ◌∷◌, [], ◌++◌, ◌+◌, ◌/◌, ◌≤◌, length};
 ghost use Rattle.codec.specs.Number.{Wrote};
-ghost use Rattle.text.specs.Put.{decimalOf, hexOf};
+ghost use Rattle.text.specs.Put.{decimal_of, hex_of};
 ghost use Rattle.text.specs.Short.{Short};
-ghost use Rattle.script.specs.Answer.{fieldText, timeText, stateText, flexrayText, errorText, identText, loadText, placedText, itemText, judgedText, steppedText, badText, numberedText, backText, timedText, bytesText, takenText, hexSize};
+ghost use Rattle.script.specs.Answer.{field_text, time_text, state_text, flexray_text, error_text, ident_text, load_text, placed_text, item_text, judged_text, stepped_text, bad_text, numbered_text, back_text, timed_text, bytes_text, taken_text, hex_size};
 
 use codec::ident::Ident;
 use codec::item::{Item, State};
@@ -22,7 +22,7 @@ fn lay(out: &mut [u8], at: usize, s: &[u8]) -> usize
 
 fn number(out: &mut [u8], at: usize, v: u64) -> usize
     requires { at + 20 ≤ length out.old }
-    ensures { Short 20 out.old at (decimalOf v) out.new result }
+    ensures { Short 20 out.old at (decimal_of v) out.new result }
 {
     match text::put::decimal(out, at, v) {
         Put::Next(next) => next,
@@ -33,7 +33,7 @@ fn number(out: &mut [u8], at: usize, v: u64) -> usize
 // A space, and a number.
 fn field(out: &mut [u8], at: usize, v: u64) -> usize
     requires { at + 21 ≤ length out.old }
-    ensures { Short 21 out.old at (fieldText v) out.new result }
+    ensures { Short 21 out.old at (field_text v) out.new result }
 {
     let start = lay(out, at, b" ");
     number(out, start, v)
@@ -41,7 +41,7 @@ fn field(out: &mut [u8], at: usize, v: u64) -> usize
 
 fn time(out: &mut [u8], at: usize, t: Time) -> usize
     requires { at + 42 ≤ length out.old }
-    ensures { Short 42 out.old at (timeText t) out.new result }
+    ensures { Short 42 out.old at (time_text t) out.new result }
 {
     let a = field(out, at, t.sec);
     field(out, a, t.nano as u64)
@@ -49,7 +49,7 @@ fn time(out: &mut [u8], at: usize, t: Time) -> usize
 
 fn state(out: &mut [u8], at: usize, s: State) -> usize
     requires { at + 21 ≤ length out.old }
-    ensures { Short 21 out.old at (stateText s) out.new result }
+    ensures { Short 21 out.old at (state_text s) out.new result }
 {
     match s {
         State::Byte(b) => field(out, at, b as u64),
@@ -59,7 +59,7 @@ fn state(out: &mut [u8], at: usize, s: State) -> usize
 
 fn flexray(out: &mut [u8], at: usize, channels: u8, slot: u16, cycle: u8) -> usize
     requires { at + 63 ≤ length out.old }
-    ensures { Short 63 out.old at (flexrayText channels slot cycle) out.new result }
+    ensures { Short 63 out.old at (flexray_text channels slot cycle) out.new result }
 {
     let a = field(out, at, channels as u64);
     let b = lay(out, a, b"/");
@@ -70,7 +70,7 @@ fn flexray(out: &mut [u8], at: usize, channels: u8, slot: u16, cycle: u8) -> usi
 
 fn error(out: &mut [u8], at: usize, channels: u8) -> usize
     requires { at + 25 ≤ length out.old }
-    ensures { Short 25 out.old at (errorText channels) out.new result }
+    ensures { Short 25 out.old at (error_text channels) out.new result }
 {
     let a = field(out, at, channels as u64);
     lay(out, a, b"/-/-")
@@ -78,7 +78,7 @@ fn error(out: &mut [u8], at: usize, channels: u8) -> usize
 
 fn ident(out: &mut [u8], at: usize, id: Ident) -> usize
     requires { at + 63 ≤ length out.old }
-    ensures { Short 63 out.old at (identText id) out.new result }
+    ensures { Short 63 out.old at (ident_text id) out.new result }
 {
     match id {
         Ident::Can(key) => field(out, at, key as u64),
@@ -95,7 +95,7 @@ fn ident(out: &mut [u8], at: usize, id: Ident) -> usize
 
 fn load(out: &mut [u8], at: usize, carries: bool, n: usize) -> usize
     requires { at + 21 ≤ length out.old }
-    ensures { Short 21 out.old at (loadText carries n) out.new result }
+    ensures { Short 21 out.old at (load_text carries n) out.new result }
 {
     if carries {
         field(out, at, n as u64)
@@ -106,7 +106,7 @@ fn load(out: &mut [u8], at: usize, carries: bool, n: usize) -> usize
 
 fn placed(out: &mut [u8], at: usize, next: usize, t: Time) -> usize
     requires { at + 64 ≤ length out.old }
-    ensures { Short 64 out.old at (placedText next t) out.new result }
+    ensures { Short 64 out.old at (placed_text next t) out.new result }
 {
     let a = lay(out, at, b"0");
     let b = field(out, a, next as u64);
@@ -115,7 +115,7 @@ fn placed(out: &mut [u8], at: usize, next: usize, t: Time) -> usize
 
 fn item(out: &mut [u8], at: usize, it: Item, n: usize) -> usize
     requires { at + 147 ≤ length out.old }
-    ensures { Short 147 out.old at (itemText it n) out.new result }
+    ensures { Short 147 out.old at (item_text it n) out.new result }
 {
     let shown = it.state;
     let id = it.ident;
@@ -129,7 +129,7 @@ fn item(out: &mut [u8], at: usize, it: Item, n: usize) -> usize
 
 fn lay_judged(out: &mut [u8], j: Judged) -> usize
     requires { 256 ≤ length out.old }
-    ensures { Short 256 out.old 0 (judgedText j) out.new result }
+    ensures { Short 256 out.old 0 (judged_text j) out.new result }
 {
     let h = reader::judged_header(j);
     let t = h.time;
@@ -141,7 +141,7 @@ fn lay_judged(out: &mut [u8], j: Judged) -> usize
 
 fn lay_stepped(out: &mut [u8], s: Stepped) -> usize
     requires { 256 ≤ length out.old }
-    ensures { Short 256 out.old 0 (steppedText s) out.new result }
+    ensures { Short 256 out.old 0 (stepped_text s) out.new result }
 {
     match s {
         Stepped::Item {
@@ -162,7 +162,7 @@ fn lay_stepped(out: &mut [u8], s: Stepped) -> usize
 }
 
 pub fn judged(out: &mut [u8], at: usize, j: Judged) -> Put
-    ensures { Wrote true out.old at (judgedText j) out.new result }
+    ensures { Wrote true out.old at (judged_text j) out.new result }
 {
     let mut text = [0u8; 256];
     let n = lay_judged(&mut text, j);
@@ -170,7 +170,7 @@ pub fn judged(out: &mut [u8], at: usize, j: Judged) -> Put
 }
 
 pub fn stepped(out: &mut [u8], at: usize, s: Stepped) -> Put
-    ensures { Wrote true out.old at (steppedText s) out.new result }
+    ensures { Wrote true out.old at (stepped_text s) out.new result }
 {
     let mut text = [0u8; 256];
     let n = lay_stepped(&mut text, s);
@@ -179,7 +179,7 @@ pub fn stepped(out: &mut [u8], at: usize, s: Stepped) -> Put
 
 fn lay_bad(out: &mut [u8], line: u64) -> usize
     requires { 256 ≤ length out.old }
-    ensures { Short 22 out.old 0 (badText line) out.new result }
+    ensures { Short 22 out.old 0 (bad_text line) out.new result }
 {
     let a = lay(out, 0, b"?");
     field(out, a, line)
@@ -187,7 +187,7 @@ fn lay_bad(out: &mut [u8], line: u64) -> usize
 
 // A line that is no call, by its number from 1.
 pub fn bad(out: &mut [u8], at: usize, line: u64) -> Put
-    ensures { Wrote true out.old at (badText line) out.new result }
+    ensures { Wrote true out.old at (bad_text line) out.new result }
 {
     let mut text = [0u8; 256];
     let n = lay_bad(&mut text, line);
@@ -196,21 +196,21 @@ pub fn bad(out: &mut [u8], at: usize, line: u64) -> Put
 
 // The answer of most calls.
 pub fn done(out: &mut [u8], at: usize, answer: u8) -> Put
-    ensures { Wrote true out.old at (decimalOf answer) out.new result }
+    ensures { Wrote true out.old at (decimal_of answer) out.new result }
 {
     text::put::decimal(out, at, answer as u64)
 }
 
 fn lay_numbered(out: &mut [u8], answer: u8, v: u64) -> usize
     requires { 256 ≤ length out.old }
-    ensures { Short 41 out.old 0 (numberedText answer v) out.new result }
+    ensures { Short 41 out.old 0 (numbered_text answer v) out.new result }
 {
     let a = number(out, 0, answer as u64);
     field(out, a, v)
 }
 
 pub fn numbered(out: &mut [u8], at: usize, answer: u8, v: u64) -> Put
-    ensures { Wrote true out.old at (numberedText answer v) out.new result }
+    ensures { Wrote true out.old at (numbered_text answer v) out.new result }
 {
     let mut text = [0u8; 256];
     let n = lay_numbered(&mut text, answer, v);
@@ -219,7 +219,7 @@ pub fn numbered(out: &mut [u8], at: usize, answer: u8, v: u64) -> Put
 
 fn lay_back(out: &mut [u8], answer: u8, back: u64) -> usize
     requires { 256 ≤ length out.old }
-    ensures { Short 46 out.old 0 (backText answer back) out.new result }
+    ensures { Short 46 out.old 0 (back_text answer back) out.new result }
 {
     let a = number(out, 0, answer as u64);
     let b = lay(out, a, b" back");
@@ -228,7 +228,7 @@ fn lay_back(out: &mut [u8], answer: u8, back: u64) -> usize
 
 // The answer of a report or a tick: how far the clock was behind, where it was.
 pub fn timed(out: &mut [u8], at: usize, answer: u8, back: Nanos) -> Put
-    ensures { Wrote true out.old at (timedText answer back.0) out.new result }
+    ensures { Wrote true out.old at (timed_text answer back.0) out.new result }
 {
     if back.0 == 0 {
         return done(out, at, answer);
@@ -240,7 +240,7 @@ pub fn timed(out: &mut [u8], at: usize, answer: u8, back: Nanos) -> Put
 
 fn hex_size(n: usize, most: usize) -> usize
     requires { n ≤ most / 2 }
-    ensures { result ≡ hexSize n }
+    ensures { result ≡ hex_size n }
 {
     if n == 0 { 1 } else { 2 * n }
 }
@@ -248,7 +248,7 @@ fn hex_size(n: usize, most: usize) -> usize
 // A short text, and a part of a frame or an output. No other answer may be long, so here the room is
 // asked for first and the bytes are written straight to the output.
 fn before_bytes(out: &mut [u8], at: usize, front: &[u8], part: &[u8]) -> Put
-    ensures { Wrote true out.old at (front.now ++ hexOf part.now) out.new result }
+    ensures { Wrote true out.old at (front.now ++ hex_of part.now) out.new result }
 {
     let most = out.len();
     if most / 2 < part.len() {
@@ -270,14 +270,14 @@ fn before_bytes(out: &mut [u8], at: usize, front: &[u8], part: &[u8]) -> Put
 
 fn lay_number(out: &mut [u8], answer: u8) -> usize
     requires { 256 ≤ length out.old }
-    ensures { Short 21 out.old 0 (decimalOf answer ++ (32 ∷ [])) out.new result }
+    ensures { Short 21 out.old 0 (decimal_of answer ++ (32 ∷ [])) out.new result }
 {
     let a = number(out, 0, answer as u64);
     lay(out, a, b" ")
 }
 
 pub fn with_bytes(out: &mut [u8], at: usize, answer: u8, part: &[u8]) -> Put
-    ensures { Wrote true out.old at (bytesText answer part.now) out.new result }
+    ensures { Wrote true out.old at (bytes_text answer part.now) out.new result }
 {
     let mut text = [0u8; 256];
     let n = lay_number(&mut text, answer);
@@ -286,14 +286,14 @@ pub fn with_bytes(out: &mut [u8], at: usize, answer: u8, part: &[u8]) -> Put
 
 fn lay_length(out: &mut [u8], answer: u8, size: u64) -> usize
     requires { 256 ≤ length out.old }
-    ensures { Short 42 out.old 0 (numberedText answer size ++ (32 ∷ [])) out.new result }
+    ensures { Short 42 out.old 0 (numbered_text answer size ++ (32 ∷ [])) out.new result }
 {
     let a = lay_numbered(out, answer, size);
     lay(out, a, b" ")
 }
 
 pub fn taken(out: &mut [u8], at: usize, answer: u8, size: u64, part: &[u8]) -> Put
-    ensures { Wrote true out.old at (takenText answer size part.now) out.new result }
+    ensures { Wrote true out.old at (taken_text answer size part.now) out.new result }
 {
     let mut text = [0u8; 256];
     let n = lay_length(&mut text, answer, size);

@@ -1,6 +1,6 @@
 // The call that a line names. Its bytes are read apart, since they go into a buffer.
 ghost use Rattle.std.specs.Prelude.{◌≡◌};
-ghost use Rattle.script.specs.Call.{countedOf, setUpOf, call_of};
+ghost use Rattle.script.specs.Call.{counted_of, set_up_of, call_of};
 
 use crate::word::Shape;
 use codec::time::Time;
@@ -114,7 +114,7 @@ pub enum Call {
 
 // The count of words is part of a call: a missing or an extra word makes it none.
 fn counted(name: &[u8], line: &[u8]) -> Call
-    ensures { result ≡ countedOf name.now line.now }
+    ensures { result ≡ counted_of name.now line.now }
 {
     let n = text::line::words(line);
     if n == 1 {
@@ -143,7 +143,7 @@ fn counted(name: &[u8], line: &[u8]) -> Call
 
 // A source is two words more; the numbers of the sources are read apart.
 fn set_up(line: &[u8]) -> Call
-    ensures { result ≡ setUpOf line.now }
+    ensures { result ≡ set_up_of line.now }
 {
     let n = text::line::words(line);
     if n < 4 {

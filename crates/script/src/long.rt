@@ -1,13 +1,13 @@
 // Lines of six to eight words, by their name and their count of words.
 ghost use Rattle.std.specs.Prelude.{◌≡◌};
-ghost use Rattle.script.specs.Call.{canStateOf, canOf, errorOf, sixWordsOf, linOf, conflictOf, slots_of, sevenWordsOf, flexrayOf, eightWordsOf};
+ghost use Rattle.script.specs.Call.{can_state_of, can_of, error_of, six_words_of, lin_of, conflict_of, slots_of, seven_words_of, flexray_of, eight_words_of};
 
 use crate::call::Call;
 use crate::word::{Flag, Narrow, Stamp};
 use text::number::Number;
 
 fn can_state(line: &[u8]) -> Call
-    ensures { result ≡ canStateOf line.now }
+    ensures { result ≡ can_state_of line.now }
 {
     let Number::Is(source) = crate::word::wide_at(line, 1) else {
         return Call::Bad;
@@ -34,7 +34,7 @@ fn can_state(line: &[u8]) -> Call
 }
 
 fn can(line: &[u8]) -> Call
-    ensures { result ≡ canOf line.now }
+    ensures { result ≡ can_of line.now }
 {
     let Stamp::Is { source, time } = crate::word::stamp_at(line) else {
         return Call::Bad;
@@ -46,7 +46,7 @@ fn can(line: &[u8]) -> Call
 }
 
 fn error(line: &[u8]) -> Call
-    ensures { result ≡ errorOf line.now }
+    ensures { result ≡ error_of line.now }
 {
     let Stamp::Is { source, time } = crate::word::stamp_at(line) else {
         return Call::Bad;
@@ -66,7 +66,7 @@ fn error(line: &[u8]) -> Call
 }
 
 pub(crate) fn six_words(name: &[u8], line: &[u8]) -> Call
-    ensures { result ≡ sixWordsOf name.now line.now }
+    ensures { result ≡ six_words_of name.now line.now }
 {
     if text::line::same(name, b"can") {
         return can(line);
@@ -81,7 +81,7 @@ pub(crate) fn six_words(name: &[u8], line: &[u8]) -> Call
 }
 
 fn lin(line: &[u8]) -> Call
-    ensures { result ≡ linOf line.now }
+    ensures { result ≡ lin_of line.now }
 {
     let Stamp::Is { source, time } = crate::word::stamp_at(line) else {
         return Call::Bad;
@@ -101,7 +101,7 @@ fn lin(line: &[u8]) -> Call
 }
 
 fn conflict(line: &[u8]) -> Call
-    ensures { result ≡ conflictOf line.now }
+    ensures { result ≡ conflict_of line.now }
 {
     let Stamp::Is { source, time } = crate::word::stamp_at(line) else {
         return Call::Bad;
@@ -156,7 +156,7 @@ fn slots(line: &[u8]) -> Call
 }
 
 pub(crate) fn seven_words(name: &[u8], line: &[u8]) -> Call
-    ensures { result ≡ sevenWordsOf name.now line.now }
+    ensures { result ≡ seven_words_of name.now line.now }
 {
     if text::line::same(name, b"lin") {
         return lin(line);
@@ -171,7 +171,7 @@ pub(crate) fn seven_words(name: &[u8], line: &[u8]) -> Call
 }
 
 fn flexray(line: &[u8]) -> Call
-    ensures { result ≡ flexrayOf line.now }
+    ensures { result ≡ flexray_of line.now }
 {
     let Stamp::Is { source, time } = crate::word::stamp_at(line) else {
         return Call::Bad;
@@ -195,7 +195,7 @@ fn flexray(line: &[u8]) -> Call
 }
 
 pub(crate) fn eight_words(name: &[u8], line: &[u8]) -> Call
-    ensures { result ≡ eightWordsOf name.now line.now }
+    ensures { result ≡ eight_words_of name.now line.now }
 {
     if text::line::same(name, b"flexray") {
         return flexray(line);

@@ -1,6 +1,6 @@
 // Lines of one to four words, by their name and their count of words.
 ghost use Rattle.std.specs.Prelude.{◌≡◌};
-ghost use Rattle.script.specs.Call.{oneWordOf, takingOf, sourcedOf, twoWordsOf, sizedOf, placed_of, removedOf, tickedOf, linStateOf, threeWordsOf, switchedOf, flexrayStateOf, filteredOf, fourWordsOf};
+ghost use Rattle.script.specs.Call.{one_word_of, taking_of, sourced_of, two_words_of, sized_of, placed_of, removed_of, ticked_of, lin_state_of, three_words_of, switched_of, flexray_state_of, filtered_of, four_words_of};
 
 use crate::call::Call;
 use crate::word::{Bounds, Flag, Narrow, Shape};
@@ -8,7 +8,7 @@ use codec::time::Time;
 use text::number::Number;
 
 pub(crate) fn one_word(name: &[u8]) -> Call
-    ensures { result ≡ oneWordOf name.now }
+    ensures { result ≡ one_word_of name.now }
 {
     if text::line::same(name, b"new") {
         return Call::New;
@@ -30,7 +30,7 @@ pub(crate) fn one_word(name: &[u8]) -> Call
 
 // The program lends an output of at most 2,048 bytes.
 fn taking(word: &[u8]) -> Call
-    ensures { result ≡ takingOf word.now }
+    ensures { result ≡ taking_of word.now }
 {
     let Number::Is(size) = text::number::read(word, 2048) else {
         return Call::Bad;
@@ -39,7 +39,7 @@ fn taking(word: &[u8]) -> Call
 }
 
 fn sourced(name: &[u8], line: &[u8]) -> Call
-    ensures { result ≡ sourcedOf name.now line.now }
+    ensures { result ≡ sourced_of name.now line.now }
 {
     let Number::Is(source) = crate::word::wide_at(line, 1) else {
         return Call::Bad;
@@ -54,7 +54,7 @@ fn sourced(name: &[u8], line: &[u8]) -> Call
 }
 
 pub(crate) fn two_words(name: &[u8], line: &[u8]) -> Call
-    ensures { result ≡ twoWordsOf name.now line.now }
+    ensures { result ≡ two_words_of name.now line.now }
 {
     if text::line::same(name, b"read") {
         return Call::Read;
@@ -67,7 +67,7 @@ pub(crate) fn two_words(name: &[u8], line: &[u8]) -> Call
 
 // The program lends an output of at most 70,000 bytes.
 fn sized(word: &[u8]) -> Call
-    ensures { result ≡ sizedOf word.now }
+    ensures { result ≡ sized_of word.now }
 {
     let Number::Is(size) = text::number::read(word, 70000) else {
         return Call::Bad;
@@ -91,7 +91,7 @@ fn placed(name: &[u8], line: &[u8]) -> Call
 }
 
 fn removed(line: &[u8]) -> Call
-    ensures { result ≡ removedOf line.now }
+    ensures { result ≡ removed_of line.now }
 {
     let Number::Is(source) = crate::word::wide_at(line, 1) else {
         return Call::Bad;
@@ -103,7 +103,7 @@ fn removed(line: &[u8]) -> Call
 }
 
 fn ticked(line: &[u8]) -> Call
-    ensures { result ≡ tickedOf line.now }
+    ensures { result ≡ ticked_of line.now }
 {
     let Number::Is(sec) = crate::word::wide_at(line, 1) else {
         return Call::Bad;
@@ -115,7 +115,7 @@ fn ticked(line: &[u8]) -> Call
 }
 
 fn lin_state(line: &[u8]) -> Call
-    ensures { result ≡ linStateOf line.now }
+    ensures { result ≡ lin_state_of line.now }
 {
     let Number::Is(source) = crate::word::wide_at(line, 1) else {
         return Call::Bad;
@@ -127,7 +127,7 @@ fn lin_state(line: &[u8]) -> Call
 }
 
 pub(crate) fn three_words(name: &[u8], line: &[u8]) -> Call
-    ensures { result ≡ threeWordsOf name.now line.now }
+    ensures { result ≡ three_words_of name.now line.now }
 {
     if text::line::same(name, b"rewrite") {
         return sized(text::line::word(line, 1));
@@ -145,7 +145,7 @@ pub(crate) fn three_words(name: &[u8], line: &[u8]) -> Call
 }
 
 fn switched(line: &[u8]) -> Call
-    ensures { result ≡ switchedOf line.now }
+    ensures { result ≡ switched_of line.now }
 {
     let Shape::Is {
         size,
@@ -163,7 +163,7 @@ fn switched(line: &[u8]) -> Call
 }
 
 fn flexray_state(line: &[u8]) -> Call
-    ensures { result ≡ flexrayStateOf line.now }
+    ensures { result ≡ flexray_state_of line.now }
 {
     let Number::Is(source) = crate::word::wide_at(line, 1) else {
         return Call::Bad;
@@ -182,7 +182,7 @@ fn flexray_state(line: &[u8]) -> Call
 }
 
 fn filtered(name: &[u8], line: &[u8]) -> Call
-    ensures { result ≡ filteredOf name.now line.now }
+    ensures { result ≡ filtered_of name.now line.now }
 {
     let Bounds::Is { source, a, b } = crate::word::bounds_at(line) else {
         return Call::Bad;
@@ -219,7 +219,7 @@ fn filtered(name: &[u8], line: &[u8]) -> Call
 }
 
 pub(crate) fn four_words(name: &[u8], line: &[u8]) -> Call
-    ensures { result ≡ fourWordsOf name.now line.now }
+    ensures { result ≡ four_words_of name.now line.now }
 {
     if text::line::same(name, b"switch") {
         return switched(line);

@@ -1,6 +1,6 @@
 // The lines that `record` knows beside those of a call script: each becomes a field of the recording.
 ghost use Rattle.std.specs.Prelude.{◌≡◌, drop};
-ghost use Rattle.script.specs.Tape.{isNote, startedOf, tapeOf};
+ghost use Rattle.script.specs.Tape.{is_note, started_of, tape_of};
 
 use crate::word::Narrow;
 use codec::time::Time;
@@ -15,7 +15,7 @@ pub enum Tape {
 
 // Asked of the line as it stands: a note may hold what starts a comment, and spaces at its end.
 pub fn is_note(line: &[u8]) -> bool
-    ensures { result ≡ isNote line.now }
+    ensures { result ≡ is_note line.now }
 {
     text::line::same(text::part::front(line, 5), b"note ")
 }
@@ -31,7 +31,7 @@ pub fn note_in(line: &[u8]) -> &[u8]
 }
 
 fn started(line: &[u8]) -> Tape
-    ensures { result ≡ startedOf line.now }
+    ensures { result ≡ started_of line.now }
 {
     let Number::Is(sec) = crate::word::wide_at(line, 1) else {
         return Tape::Call;
@@ -45,7 +45,7 @@ fn started(line: &[u8]) -> Tape
 
 // A line without its comment: with one number `start` is the engine's call, with two a microphone's start.
 pub fn parse(line: &[u8]) -> Tape
-    ensures { result ≡ tapeOf line.now }
+    ensures { result ≡ tape_of line.now }
 {
     let n = text::line::words(line);
     let name = text::line::word(line, 0);

@@ -1,6 +1,6 @@
 // The words of a line as numbers of their widths.
 ghost use Rattle.std.specs.Prelude.{◌≡◌};
-ghost use Rattle.script.specs.Word.{narrowOf, wideAt, narrowAt, flagAt, stampAt, shape_at, boundsAt};
+ghost use Rattle.script.specs.Word.{narrow_of, wide_at, narrow_at, flag_at, stamp_at, shape_at, bounds_at};
 
 use codec::time::Time;
 use text::number::Number;
@@ -37,7 +37,7 @@ pub enum Bounds {
 }
 
 pub fn narrow_of(word: &[u8]) -> Narrow
-    ensures { result ≡ narrowOf word.now }
+    ensures { result ≡ narrow_of word.now }
 {
     let Number::Is(v) = text::number::read(word, 4294967295) else {
         return Narrow::Bad;
@@ -46,19 +46,19 @@ pub fn narrow_of(word: &[u8]) -> Narrow
 }
 
 pub fn wide_at(line: &[u8], k: usize) -> Number
-    ensures { result ≡ wideAt line.now k }
+    ensures { result ≡ wide_at line.now k }
 {
     text::number::read(text::line::word(line, k), 18446744073709551615)
 }
 
 pub fn narrow_at(line: &[u8], k: usize) -> Narrow
-    ensures { result ≡ narrowAt line.now k }
+    ensures { result ≡ narrow_at line.now k }
 {
     narrow_of(text::line::word(line, k))
 }
 
 pub fn flag_at(line: &[u8], k: usize) -> Flag
-    ensures { result ≡ flagAt line.now k }
+    ensures { result ≡ flag_at line.now k }
 {
     let Number::Is(v) = text::number::read(text::line::word(line, k), 1) else {
         return Flag::Bad;
@@ -68,7 +68,7 @@ pub fn flag_at(line: &[u8], k: usize) -> Flag
 
 // Every report starts with its source and its time.
 pub fn stamp_at(line: &[u8]) -> Stamp
-    ensures { result ≡ stampAt line.now }
+    ensures { result ≡ stamp_at line.now }
 {
     let Number::Is(source) = wide_at(line, 1) else {
         return Stamp::Bad;
@@ -103,7 +103,7 @@ pub fn shape_at(line: &[u8]) -> Shape
 }
 
 pub fn bounds_at(line: &[u8]) -> Bounds
-    ensures { result ≡ boundsAt line.now }
+    ensures { result ≡ bounds_at line.now }
 {
     let Number::Is(source) = wide_at(line, 1) else {
         return Bounds::Bad;

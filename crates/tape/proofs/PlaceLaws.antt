@@ -10,19 +10,19 @@ use borrow.Author.Tests.{lt-ltb, le-ltb, le-leb, lt-leb, ltb-true, ltb-false, le
 use Rattle.codec.specs.Time.{ns}
 use Rattle.codec.specs.declared.time.Time.{Time}
 use Rattle.codec.proofs.Opened.{never}
-use Rattle.tape.specs.Sample.{apartOf, sampleOf, Plays, SameOrNext, beginsOf, withinDay, placed_of, position_of}
+use Rattle.tape.specs.Sample.{apart_of, sample_of, Plays, SameOrNext, begins_of, within_day, placed_of, position_of}
 use Rattle.tape.specs.declared.sample.Placed.{Placed}
 use Rattle.tape.specs.declared.sample.Placed.TheVariants as Placed
-use Rattle.tape.proofs.SampleLaws.{sample-after, sample-before, plays, the_one, begins}
+use Rattle.tape.proofs.SampleLaws.{sample_after, sample_before, plays, the_one, begins}
 
 -- a difference, at each sign
-pub apart-after : (s t : ℕ) → s ≤ t → pos t -ℤ pos s ≡ pos (t - s)
-apart-after zero t h = let e : t + zero ≡ t - zero = omega arith in ap pos e
-apart-after (suc m) t h = simp (le-ltb t (suc m) h)
+pub apart_after : (s t : ℕ) → s ≤ t → pos t -ℤ pos s ≡ pos (t - s)
+apart_after zero t h = let e : t + zero ≡ t - zero = omega arith in ap pos e
+apart_after (suc m) t h = simp (le-ltb t (suc m) h)
 
-pub apart-before : (s t : ℕ) → t < s → pos t -ℤ pos s ≡ negsuc (s - suc t)
-apart-before zero t h = never (omega arith)
-apart-before (suc m) t h = simp (lt-ltb t (suc m) h)
+pub apart_before : (s t : ℕ) → t < s → pos t -ℤ pos s ≡ negsuc (s - suc t)
+apart_before zero t h = never (omega arith)
+apart_before (suc m) t h = simp (lt-ltb t (suc m) h)
 
 -- only the difference counts
 pub shift : (x y s t : ℕ) → s + y ≡ t + x → pos y -ℤ pos x ≡ pos t -ℤ pos s
@@ -32,23 +32,23 @@ shift x y s t h = go (ltb y x) refl
     go true e =
         let k : y < x = ltb-true y x e in
         let d : x - suc y ≡ s - suc t = omega arith in
-        rw (apart-before x y k, apart-before s t (omega arith)) (ap negsuc d)
+        rw (apart_before x y k, apart_before s t (omega arith)) (ap negsuc d)
     go false e =
         let k : x ≤ y = ltb-false y x e in
         let d : y - x ≡ t - s = omega arith in
-        rw (apart-after x y k, apart-after s t (omega arith)) (ap pos d)
+        rw (apart_after x y k, apart_after s t (omega arith)) (ap pos d)
 
 -- so both may be counted from the earlier of their seconds
 pub from_start : (start time : Time) → start.sec ≤ time.sec
     → placed_of (pos ((time.sec - start.sec) * 1000000000 + time.nano) -ℤ pos start.nano) ≡ position_of start time
 from_start start time h = ap placed_of (shift start.nano ((time.sec - start.sec) * 1000000000 + time.nano) (ns start) (ns time) (omega arith))
 
-pub from-time : (start time : Time) → time.sec ≤ start.sec
+pub from_time : (start time : Time) → time.sec ≤ start.sec
     → placed_of (pos time.nano -ℤ pos ((start.sec - time.sec) * 1000000000 + start.nano)) ≡ position_of start time
-from-time start time h = ap placed_of (shift ((start.sec - time.sec) * 1000000000 + start.nano) time.nano (ns start) (ns time) (omega arith))
+from_time start time h = ap placed_of (shift ((start.sec - time.sec) * 1000000000 + start.nano) time.nano (ns start) (ns time) (omega arith))
 
 -- what is answered: the sample within 24 hours, and else 61
-pub near : (d : ℤ) → nat_abs d ≤ 86400000000000 → placed_of d ≡ Placed.Sample (sampleOf d)
+pub near : (d : ℤ) → nat_abs d ≤ 86400000000000 → placed_of d ≡ Placed.Sample (sample_of d)
 unfolding placed_of
 near d h = rw (le-leb (nat_abs d) 86400000000000 h)
 
@@ -57,11 +57,11 @@ unfolding placed_of
 far d h = rw (lt-leb (nat_abs d) 86400000000000 h)
 
 -- how far apart they are
-pub size-after : (s t : ℕ) → s ≤ t → nat_abs (pos t -ℤ pos s) ≡ t - s
-size-after s t h = rw (apart-after s t h)
+pub size_after : (s t : ℕ) → s ≤ t → nat_abs (pos t -ℤ pos s) ≡ t - s
+size_after s t h = rw (apart_after s t h)
 
-pub size-before : (s t : ℕ) → t < s → nat_abs (pos t -ℤ pos s) ≡ s - t
-size-before s t h = rw (apart-before s t h) (omega arith)
+pub size_before : (s t : ℕ) → t < s → nat_abs (pos t -ℤ pos s) ≡ s - t
+size_before s t h = rw (apart_before s t h) (omega arith)
 
 -- and nothing else: what is told is the one sample that plays
 abbrev number : Placed → ℤ
@@ -69,64 +69,64 @@ number (Placed.Sample p) = p
 number (Placed.Refused answer) = pos answer
 
 module _ (start time : Time) where
-  pub tells : (p : ℤ) → position_of start time ≡ Placed.Sample p → (p ≡ sampleOf (apartOf start time)) × (nat_abs (apartOf start time) ≤ 86400000000000)
-  tells p h = go (withinDay (apartOf start time)) refl
+  pub tells : (p : ℤ) → position_of start time ≡ Placed.Sample p → (p ≡ sample_of (apart_of start time)) × (nat_abs (apart_of start time) ≤ 86400000000000)
+  tells p h = go (within_day (apart_of start time)) refl
     where
-      go : (b : Bool) → withinDay (apartOf start time) ≡ b → (p ≡ sampleOf (apartOf start time)) × (nat_abs (apartOf start time) ≤ 86400000000000)
+      go : (b : Bool) → within_day (apart_of start time) ≡ b → (p ≡ sample_of (apart_of start time)) × (nat_abs (apart_of start time) ≤ 86400000000000)
       go true e =
-          let k = leb-true (nat_abs (apartOf start time)) 86400000000000 e in
-          (ap number (sym h ∙ near (apartOf start time) k), k)
-      go false e = never (cc (h, far (apartOf start time) (leb-false (nat_abs (apartOf start time)) 86400000000000 e)))
+          let k = leb-true (nat_abs (apart_of start time)) 86400000000000 e in
+          (ap number (sym h ∙ near (apart_of start time) k), k)
+      go false e = never (cc (h, far (apart_of start time) (leb-false (nat_abs (apart_of start time)) 86400000000000 e)))
 
-  pub playing : (p : ℤ) → position_of start time ≡ Placed.Sample p → Plays p (apartOf start time)
-  playing p h = rw (tells p h).0 (plays (apartOf start time))
+  pub playing : (p : ℤ) → position_of start time ≡ Placed.Sample p → Plays p (apart_of start time)
+  playing p h = rw (tells p h).0 (plays (apart_of start time))
 
-  pub answers : (p : ℤ) → Plays p (apartOf start time) → nat_abs (apartOf start time) ≤ 86400000000000 → position_of start time ≡ Placed.Sample p
-  answers p h k = near (apartOf start time) k ∙ ap Placed.Sample (sym (the_one p (apartOf start time) h))
+  pub answers : (p : ℤ) → Plays p (apart_of start time) → nat_abs (apart_of start time) ≤ 86400000000000 → position_of start time ≡ Placed.Sample p
+  answers p h k = near (apart_of start time) k ∙ ap Placed.Sample (sym (the_one p (apart_of start time) h))
 
 -- a time at which a sample begins
-pub own-time : (start time : Time) (n : ℤ) → apartOf start time ≡ beginsOf n → nat_abs (beginsOf n) ≤ 86400000000000 → position_of start time ≡ Placed.Sample n
-own-time start time n e h = rw e (near (beginsOf n) h ∙ ap Placed.Sample (begins n))
+pub own_time : (start time : Time) (n : ℤ) → apart_of start time ≡ begins_of n → nat_abs (begins_of n) ≤ 86400000000000 → position_of start time ≡ Placed.Sample n
+own_time start time n e h = rw e (near (begins_of n) h ∙ ap Placed.Sample (begins n))
 
 -- a number and the same or the next
-same-or-suc : (p q : ℕ) → p ≤ q → q ≤ suc p → (q ≡ p) ⊎ (q ≡ suc p)
-same-or-suc p q h k = go (leb q p) refl
+same_or_suc : (p q : ℕ) → p ≤ q → q ≤ suc p → (q ≡ p) ⊎ (q ≡ suc p)
+same_or_suc p q h k = go (leb q p) refl
   where
     go : (b : Bool) → leb q p ≡ b → (q ≡ p) ⊎ (q ≡ suc p)
     go true e = let l : q ≤ p = leb-true q p e in inl (omega arith)
     go false e = let l : p < q = leb-false q p e in inr (omega arith)
 
-both-after : (p q : ℕ) → (q ≡ p) ⊎ (q ≡ suc p) → SameOrNext (pos p) (pos q)
-both-after p q (inl e) = inl (ap pos e)
-both-after p q (inr e) = inr (ap pos e)
+both_after : (p q : ℕ) → (q ≡ p) ⊎ (q ≡ suc p) → SameOrNext (pos p) (pos q)
+both_after p q (inl e) = inl (ap pos e)
+both_after p q (inr e) = inr (ap pos e)
 
-both-before : (p q : ℕ) → (p ≡ q) ⊎ (p ≡ suc q) → SameOrNext (negsuc p) (negsuc q)
-both-before p q (inl e) = inl (ap negsuc (sym e))
-both-before p q (inr e) = inr (rw e refl)
+both_before : (p q : ℕ) → (p ≡ q) ⊎ (p ≡ suc q) → SameOrNext (negsuc p) (negsuc q)
+both_before p q (inl e) = inl (ap negsuc (sym e))
+both_before p q (inr e) = inr (rw e refl)
 
 -- less than a sample later, a time lies on the same sample or on the next: a sample takes 20,833 1/3 ns
-pub soon : (s t r : ℕ) → t ≤ r → r ≤ t + 20833 → SameOrNext (sampleOf (pos t -ℤ pos s)) (sampleOf (pos r -ℤ pos s))
+pub soon : (s t r : ℕ) → t ≤ r → r ≤ t + 20833 → SameOrNext (sample_of (pos t -ℤ pos s)) (sample_of (pos r -ℤ pos s))
 soon s t r h k = go (ltb t s) refl (ltb r s) refl
   where
-    go : (b : Bool) → ltb t s ≡ b → (d : Bool) → ltb r s ≡ d → SameOrNext (sampleOf (pos t -ℤ pos s)) (sampleOf (pos r -ℤ pos s))
+    go : (b : Bool) → ltb t s ≡ b → (d : Bool) → ltb r s ≡ d → SameOrNext (sample_of (pos t -ℤ pos s)) (sample_of (pos r -ℤ pos s))
     go false e d g =
         let l : s ≤ t = ltb-false t s e in
-        let w = same-or-suc (6 * (t - s) / 125000) (6 * (r - s) / 125000) (omega arith) (omega arith) in
-        rw (apart-after s t l, apart-after s r (omega arith), sample-after (t - s), sample-after (r - s)) (both-after (6 * (t - s) / 125000) (6 * (r - s) / 125000) w)
+        let w = same_or_suc (6 * (t - s) / 125000) (6 * (r - s) / 125000) (omega arith) (omega arith) in
+        rw (apart_after s t l, apart_after s r (omega arith), sample_after (t - s), sample_after (r - s)) (both_after (6 * (t - s) / 125000) (6 * (r - s) / 125000) w)
     go true e false g =
         let l : t < s = ltb-true t s e in
         let m : s ≤ r = ltb-false r s g in
         let x : (6 * (s - suc t) + 5) / 125000 ≡ 0 = omega arith in
         let y : 6 * (r - s) / 125000 ≡ 0 = omega arith in
-        rw (apart-before s t l, apart-after s r m, sample-before (s - suc t), sample-after (r - s), x, y) (inr refl)
+        rw (apart_before s t l, apart_after s r m, sample_before (s - suc t), sample_after (r - s), x, y) (inr refl)
     go true e true g =
         let l : t < s = ltb-true t s e in
         let m : r < s = ltb-true r s g in
-        let w = same-or-suc ((6 * (s - suc r) + 5) / 125000) ((6 * (s - suc t) + 5) / 125000) (omega arith) (omega arith) in
-        rw (apart-before s t l, apart-before s r m, sample-before (s - suc t), sample-before (s - suc r)) (both-before ((6 * (s - suc t) + 5) / 125000) ((6 * (s - suc r) + 5) / 125000) w)
+        let w = same_or_suc ((6 * (s - suc r) + 5) / 125000) ((6 * (s - suc t) + 5) / 125000) (omega arith) (omega arith) in
+        rw (apart_before s t l, apart_before s r m, sample_before (s - suc t), sample_before (s - suc r)) (both_before ((6 * (s - suc t) + 5) / 125000) ((6 * (s - suc r) + 5) / 125000) w)
 
 -- so do the positions that are told
-pub positions-soon : (start t r : Time) → ns t ≤ ns r → ns r ≤ ns t + 20833 → (p q : ℤ)
+pub positions_soon : (start t r : Time) → ns t ≤ ns r → ns r ≤ ns t + 20833 → (p q : ℤ)
     → position_of start t ≡ Placed.Sample p → position_of start r ≡ Placed.Sample q → SameOrNext p q
-positions-soon start t r h k p q x y =
+positions_soon start t r h k p q x y =
     rw ((tells start t p x).0, (tells start r q y).0) (soon (ns start) (ns t) (ns r) h k)

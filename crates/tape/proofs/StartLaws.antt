@@ -8,7 +8,7 @@ use Rattle.recording.specs.declared.field.Found.{Found}
 use Rattle.recording.specs.declared.field.Found.TheVariants as Found
 use Rattle.tape.specs.declared.microphone.Microphone.{Microphone}
 use Rattle.tape.specs.declared.microphone.Microphone.TheVariants as Microphone
-use Rattle.tape.specs.Start.{after_of, afterAll, starts, NoStart}
+use Rattle.tape.specs.Start.{after_of, after_all, starts, NoStart}
 
 -- nothing but a good start changes it
 pub others_keep : (m : Microphone) (x : Found) → starts x ≡ false → after_of m x ≡ m
@@ -18,12 +18,12 @@ others_keep m (Found.Start t) e = absurd (true≢false e)
 others_keep m (Found.Refused answer) e = refl
 others_keep m Found.Skipped e = refl
 
-pub none-keeps : (m : Microphone) (fs : List Finding) → NoStart fs → afterAll m fs ≡ m
+pub none-keeps : (m : Microphone) (fs : List Finding) → NoStart fs → after_all m fs ≡ m
 none-keeps m [] h = refl
-none-keeps m (f ∷ fs) h = ap (λ (k : Microphone). afterAll k fs) (others_keep m f.found h.0) ∙ none-keeps m fs h.1
+none-keeps m (f ∷ fs) h = ap (λ (k : Microphone). after_all k fs) (others_keep m f.found h.0) ∙ none-keeps m fs h.1
 
 -- whatever came before it, a good start is in force until the next one
 pub latest : (m : Microphone) (fs gs : List Finding) (f : Finding) (t : Time) → f.found ≡ Found.Start t → NoStart gs
-    → afterAll m (fs ++ (f ∷ gs)) ≡ Microphone.Since t
+    → after_all m (fs ++ (f ∷ gs)) ≡ Microphone.Since t
 latest m [] gs f t e h = rw e (none-keeps (Microphone.Since t) gs h)
 latest m (x ∷ fs) gs f t e h = latest (after_of m x.found) fs gs f t e h

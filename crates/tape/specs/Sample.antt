@@ -10,19 +10,19 @@ use Rattle.tape.specs.declared.sample.Placed.{Placed}
 use Rattle.tape.specs.declared.sample.Placed.TheVariants as Placed
 
 -- a number divided, rounded towards minus infinity (shr_z takes a to a / n and -(a + 1) to -(a / n + 1)), and up
-abbrev pub downBy : ℕ → ℤ → ℤ
-downBy n z = shr_z z n
+abbrev pub down_by : ℕ → ℤ → ℤ
+down_by n z = shr_z z n
 
-abbrev pub upBy : ℕ → ℤ → ℤ
-upBy n z = neg_ℤ (downBy n (neg_ℤ z))
+abbrev pub up_by : ℕ → ℤ → ℤ
+up_by n z = neg_ℤ (down_by n (neg_ℤ z))
 
 -- the nanoseconds from the start to the time, with their sign
-abbrev pub apartOf : Time → Time → ℤ
-apartOf start time = pos (ns time) -ℤ pos (ns start)
+abbrev pub apart_of : Time → Time → ℤ
+apart_of start time = pos (ns time) -ℤ pos (ns start)
 
 -- 48,000 samples a second are 6 in 125,000 ns: the sample under way d nanoseconds after the start
-unfoldable pub sampleOf : ℤ → ℤ
-sampleOf d = downBy 125000 (pos 6 *ℤ d)
+unfoldable pub sample_of : ℤ → ℤ
+sample_of d = down_by 125000 (pos 6 *ℤ d)
 
 -- what that means: 125,000 p ≤ 6 d < 125,000 (p + 1)
 pub record Plays (p d : ℤ) : Type 0 where
@@ -34,16 +34,16 @@ abbrev pub SameOrNext : ℤ → ℤ → Type 0
 SameOrNext p q = (q ≡ p) ⊎ (q ≡ suc_ℤ p)
 
 -- where sample n begins: the first whole nanosecond at or after n * 125,000 / 6
-unfoldable pub beginsOf : ℤ → ℤ
-beginsOf n = upBy 6 (pos 125000 *ℤ n)
+unfoldable pub begins_of : ℤ → ℤ
+begins_of n = up_by 6 (pos 125000 *ℤ n)
 
 -- at most 24 hours, either way
-abbrev pub withinDay : ℤ → Bool
-withinDay d = leb (nat_abs d) 86400000000000
+abbrev pub within_day : ℤ → Bool
+within_day d = leb (nat_abs d) 86400000000000
 
 -- 61 where it is more
 unfoldable pub placed_of : ℤ → Placed
-placed_of d = pick (withinDay d) (Placed.Sample (sampleOf d)) (Placed.Refused 61)
+placed_of d = pick (within_day d) (Placed.Sample (sample_of d)) (Placed.Refused 61)
 
 abbrev pub position_of : Time → Time → Placed
-position_of start time = placed_of (apartOf start time)
+position_of start time = placed_of (apart_of start time)

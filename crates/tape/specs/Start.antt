@@ -15,9 +15,9 @@ after_of m (Found.Refused answer) = m
 after_of m Found.Skipped = m
 
 -- after some findings
-abbrev pub afterAll : Microphone → List Finding → Microphone
-afterAll m [] = m
-afterAll m (f ∷ fs) = afterAll (after_of m f.found) fs
+abbrev pub after_all : Microphone → List Finding → Microphone
+after_all m [] = m
+after_all m (f ∷ fs) = after_all (after_of m f.found) fs
 
 -- no good start among them
 abbrev pub starts : Found → Bool

@@ -1,6 +1,6 @@
 // Samples come at 48,000 a second, which is 6 in 125,000 nanoseconds.
 ghost use Rattle.std.specs.Prelude.{◌≡◌, ◌≤◌, ◌<◌, pos, negsuc, ◌-ℤ◌};
-ghost use Rattle.tape.specs.Sample.{sampleOf, placed_of, position_of};
+ghost use Rattle.tape.specs.Sample.{sample_of, placed_of, position_of};
 
 use codec::time::Time;
 
@@ -13,7 +13,7 @@ pub enum Placed {
 
 fn later(n: u64) -> i64
     requires { n ≤ 86400000000000 }
-    ensures { result ≡ sampleOf (pos n) }
+    ensures { result ≡ sample_of (pos n) }
 {
     (n * 6 / 125000) as i64
 }
@@ -21,7 +21,7 @@ fn later(n: u64) -> i64
 // n + 1 nanoseconds before the start, where sample -1 is the first to be met.
 fn earlier(n: u64) -> i64
     requires { n < 86400000000000 }
-    ensures { result ≡ sampleOf (negsuc n) }
+    ensures { result ≡ sample_of (negsuc n) }
 {
     -1 - ((n * 6 + 5) / 125000) as i64
 }

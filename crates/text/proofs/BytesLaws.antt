@@ -9,10 +9,10 @@ use lib.ListN.{length, get_or, drop, set, length-set, length-drop, drop_of_lengt
 use lib.Seq.{drop-cons, sets, sets-eq}
 use lib.Dec.{leb, ltb, eqb}
 use borrow.Author.Tests.{le-leb, lt-leb, lt-ltb, le-ltb, ltb-true, eq-eqb, ne_eqb}
-use Rattle.codec.proofs.BoolLaws.{and-false, and_l, and_r}
-use Rattle.text.specs.Digit.{digitOf, all_below}
+use Rattle.codec.proofs.BoolLaws.{and_false, and_l, and_r}
+use Rattle.text.specs.Digit.{digit_of, all_below}
 use Rattle.codec.specs.Number.{over}
-use Rattle.text.specs.Line.{sameOf}
+use Rattle.text.specs.Line.{same_of}
 use Rattle.text.specs.Bytes.{pairs, spells, Filled}
 use Rattle.text.specs.declared.bytes.Bytes.{Bytes}
 use Rattle.text.specs.declared.bytes.Bytes.TheVariants as Bytes
@@ -22,39 +22,39 @@ pub record Judging (s : List ℕ) (i : ℕ) : Type 0 where
   pub most : i ≤ length s
   pub left : all_below 16 s ≡ all_below 16 (drop i s)
 
-pub judging-first : (s : List ℕ) → Judging s 0
-judging-first s = record { most = omega arith; left = refl }
+pub judging_first : (s : List ℕ) → Judging s 0
+judging_first s = record { most = omega arith; left = refl }
 
-pub judging-more : {s : List ℕ} {i : ℕ} (d : ℕ) → Judging s i → i < length s → d ≡ digitOf (get_or s i 0) → d < 16 → Judging s (i + 1)
-judging-more {s} {i} d j h e b =
+pub judging_more : {s : List ℕ} {i : ℕ} (d : ℕ) → Judging s i → i < length s → d ≡ digit_of (get_or s i 0) → d < 16 → Judging s (i + 1)
+judging_more {s} {i} d j h e b =
     let p : all_below 16 (drop i s) ≡ all_below 16 (drop (i + 1) s) = rw (add-one, drop-cons s i 0 h, ← e, lt-ltb d 16 b) in
     record { most = omega arith; left = j.left ∙ p }
 
-pub judging-wrong : {s : List ℕ} {i : ℕ} (d : ℕ) → Judging s i → i < length s → d ≡ digitOf (get_or s i 0) → 16 ≤ d → false ≡ all_below 16 s
-judging-wrong {s} {i} d j h e b =
+pub judging_wrong : {s : List ℕ} {i : ℕ} (d : ℕ) → Judging s i → i < length s → d ≡ digit_of (get_or s i 0) → 16 ≤ d → false ≡ all_below 16 s
+judging_wrong {s} {i} d j h e b =
     let p : all_below 16 (drop i s) ≡ false = rw (drop-cons s i 0 h, ← e, le-ltb d 16 b) in
     sym (j.left ∙ p)
 
-pub judging-end : {s : List ℕ} {i : ℕ} → Judging s i → length s ≤ i → true ≡ all_below 16 s
-judging-end {s} {i} j h =
+pub judging_end : {s : List ℕ} {i : ℕ} → Judging s i → length s ≤ i → true ≡ all_below 16 s
+judging_end {s} {i} j h =
     let p : all_below 16 (drop i s) ≡ true = rw (drop_of_length-le s h) in
     sym (j.left ∙ p)
 
 -- each digit by itself
-pub digit_at : (s : List ℕ) (i : ℕ) → all_below 16 s ≡ true → i < length s → digitOf (get_or s i 0) < 16
+pub digit_at : (s : List ℕ) (i : ℕ) → all_below 16 s ≡ true → i < length s → digit_of (get_or s i 0) < 16
 digit_at [] i e h = absurd (omega arith)
-digit_at (c ∷ cs) zero e h = ltb-true (digitOf c) 16 (and_l (ltb (digitOf c) 16) (all_below 16 cs) e)
-digit_at (c ∷ cs) (suc j) e h = digit_at cs j (and_r (ltb (digitOf c) 16) (all_below 16 cs) e) (omega arith)
+digit_at (c ∷ cs) zero e h = ltb-true (digit_of c) 16 (and_l (ltb (digit_of c) 16) (all_below 16 cs) e)
+digit_at (c ∷ cs) (suc j) e h = digit_at cs j (and_r (ltb (digit_of c) 16) (all_below 16 cs) e) (omega arith)
 
 pub pairs-length : (w : List ℕ) → length (pairs w) ≡ length w / 2
 pairs-length [] = refl
 pairs-length (a ∷ []) = refl
 pairs-length (a ∷ b ∷ cs) = let r = pairs-length cs in omega arith
 
-pairs-few : (w : List ℕ) → length w < 2 → pairs w ≡ []
-pairs-few [] h = refl
-pairs-few (a ∷ []) h = refl
-pairs-few (a ∷ b ∷ cs) h = absurd (omega arith)
+pairs_few : (w : List ℕ) → length w < 2 → pairs w ≡ []
+pairs_few [] h = refl
+pairs_few (a ∷ []) h = refl
+pairs_few (a ∷ b ∷ cs) h = absurd (omega arith)
 
 -- the first i bytes stand at the front
 pub record Laying (w l out : List ℕ) (i : ℕ) : Type 0 where
@@ -62,12 +62,12 @@ pub record Laying (w l out : List ℕ) (i : ℕ) : Type 0 where
   pub size : length out ≡ length l
   pub left : sets l 0 (pairs w) ≡ sets out i (pairs (drop (2 * i) w))
 
-pub laying-first : (w l : List ℕ) → Laying w l l 0
-laying-first w l = record { most = omega arith; size = refl; left = refl }
+pub laying_first : (w l : List ℕ) → Laying w l l 0
+laying_first w l = record { most = omega arith; size = refl; left = refl }
 
-pub laying-more : {w l out : List ℕ} {i : ℕ} (a b : ℕ) → Laying w l out i → i < length w / 2 → a ≡ digitOf (get_or w (2 * i) 0) → b ≡ digitOf (get_or w (2 * i + 1) 0)
+pub laying_more : {w l out : List ℕ} {i : ℕ} (a b : ℕ) → Laying w l out i → i < length w / 2 → a ≡ digit_of (get_or w (2 * i) 0) → b ≡ digit_of (get_or w (2 * i + 1) 0)
     → Laying w l (set out i (a * 16 + b)) (i + 1)
-laying-more {w} {l} {out} {i} a b g h ea eb =
+laying_more {w} {l} {out} {i} a b g h ea eb =
     let q : 2 * (i + 1) ≡ suc (suc (2 * i)) = omega arith in
     let p : pairs (drop (2 * i) w) ≡ (a * 16 + b) ∷ pairs (drop (2 * (i + 1)) w)
     = rw (q, ea, eb, add-one (2 * i), drop-cons w (2 * i) 0 (omega arith), drop-cons w (suc (2 * i)) 0 (omega arith)) in
@@ -77,18 +77,18 @@ laying-more {w} {l} {out} {i} a b g h ea eb =
       left = g.left ∙ ap (sets out i) p ∙ ap (λ (k : ℕ). sets (set out i (a * 16 + b)) k (pairs (drop (2 * (i + 1)) w))) (sym (add-one i));
     }
 
-pub laying-end : {w l out : List ℕ} {i : ℕ} → Laying w l out i → length w / 2 ≤ i → length w ≤ 2 * length l → out ≡ over l 0 (pairs w)
-laying-end {w} {l} {out} {i} g h f =
-    let p : pairs (drop (2 * i) w) ≡ [] = pairs-few (drop (2 * i) w) (omega (arith, length-drop (2 * i) w)) in
+pub laying_end : {w l out : List ℕ} {i : ℕ} → Laying w l out i → length w / 2 ≤ i → length w ≤ 2 * length l → out ≡ over l 0 (pairs w)
+laying_end {w} {l} {out} {i} g h f =
+    let p : pairs (drop (2 * i) w) ≡ [] = pairs_few (drop (2 * i) w) (omega (arith, length-drop (2 * i) w)) in
     sym (g.left ∙ ap (sets out i) p) ∙ sets-eq (pairs w) l 0 (omega (arith, pairs-length w))
 
 -- the answers
-pub filled-wrong : {good : Bool} {bs l : List ℕ} → good ≡ false → Filled good bs l l Bytes.Bad
-filled-wrong e = record { list = rw e; answer = rw e }
+pub filled_wrong : {good : Bool} {bs l : List ℕ} → good ≡ false → Filled good bs l l Bytes.Bad
+filled_wrong e = record { list = rw e; answer = rw e }
 
-pub filled-small : {good : Bool} {bs l : List ℕ} → length l < length bs → Filled good bs l l Bytes.Bad
-filled-small {good} {bs} {l} h =
-    let e : good && leb (length bs) (length l) ≡ false = rw (lt-leb (length bs) (length l) h) (and-false good) in
+pub filled_small : {good : Bool} {bs l : List ℕ} → length l < length bs → Filled good bs l l Bytes.Bad
+filled_small {good} {bs} {l} h =
+    let e : good && leb (length bs) (length l) ≡ false = rw (lt-leb (length bs) (length l) h) (and_false good) in
     record { list = rw e; answer = rw e }
 
 pub filled : {good : Bool} {bs l l' : List ℕ} {n : ℕ} → good ≡ true → length bs ≤ length l → l' ≡ over l 0 bs → n ≡ length bs → Filled good bs l l' (Bytes.Are n)
@@ -97,16 +97,16 @@ filled {good} {bs} {l} {l'} {n} g h e k =
     record { list = rw (g, t) e; answer = rw (g, t, k) }
 
 -- which words are bytes
-dash-none : (w : List ℕ) → sameOf w (45 ∷ []) ≡ true → pairs w ≡ []
+dash-none : (w : List ℕ) → same_of w (45 ∷ []) ≡ true → pairs w ≡ []
 dash-none [] e = refl
 dash-none (x ∷ []) e = refl
 dash-none (x ∷ y ∷ zs) e = let z : false ≡ true = and_r (eqb x 45) false e in cc
 
-pub dashed : {l : List ℕ} (w : List ℕ) → sameOf w (45 ∷ []) ≡ true → Filled (spells w) (pairs w) l l (Bytes.Are 0)
+pub dashed : {l : List ℕ} (w : List ℕ) → same_of w (45 ∷ []) ≡ true → Filled (spells w) (pairs w) l l (Bytes.Are 0)
 unfolding spells
 dashed {l} w e = rw (dash-none w e) (filled (rw e) (omega arith) refl refl)
 
-module _ (w : List ℕ) (d : sameOf w (45 ∷ []) ≡ false) where
+module _ (w : List ℕ) (d : same_of w (45 ∷ []) ≡ false) where
   pub too_short : length w / 2 ≡ 0 → spells w ≡ false
   unfolding spells
   too_short h = go (ltb 0 (length w)) refl
@@ -125,7 +125,7 @@ module _ (w : List ℕ) (d : sameOf w (45 ∷ []) ≡ false) where
 
   pub no_digit : all_below 16 w ≡ false → spells w ≡ false
   unfolding spells
-  no_digit e = rw (d, e) (and-false (ltb 0 (length w) && eqb (length w % 2) 0))
+  no_digit e = rw (d, e) (and_false (ltb 0 (length w) && eqb (length w % 2) 0))
 
   pub good : (length w / 2 ≡ 0 → ⊥) → length w % 2 ≡ 0 → all_below 16 w ≡ true → spells w ≡ true
   unfolding spells

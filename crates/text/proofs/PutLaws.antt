@@ -12,7 +12,7 @@ use lib.Dec.{ltb}
 use Rattle.codec.proofs.NumberLaws.{full, wrote}
 use borrow.Author.Tests.{lt-ltb, le-ltb}
 use Rattle.codec.specs.Number.{over, Wrote}
-use Rattle.text.specs.Put.{letterOf, hexes, hexOf, decimals, decimalOf, Ends}
+use Rattle.text.specs.Put.{letter_of, hexes, hex_of, decimals, decimal_of, Ends}
 use Rattle.codec.specs.declared.number.Put.{Put}
 use Rattle.codec.specs.declared.number.Put.TheVariants as Put
 
@@ -23,12 +23,12 @@ pub record Hexing (l : List ℕ) (at : ℕ) (src out : List ℕ) (i k : ℕ) : T
   pub next : k ≡ at + 2 * i
   pub left : sets l at (hexes src) ≡ sets out k (hexes (drop i src))
 
-pub hexing-first : (l : List ℕ) (at : ℕ) (src : List ℕ) → Hexing l at src l 0 at
-hexing-first l at src = record { most = omega arith; size = refl; next = omega arith; left = refl }
+pub hexing_first : (l : List ℕ) (at : ℕ) (src : List ℕ) → Hexing l at src l 0 at
+hexing_first l at src = record { most = omega arith; size = refl; next = omega arith; left = refl }
 
-pub hexing-more : {l : List ℕ} {at : ℕ} {src out : List ℕ} {i k : ℕ} (x y : ℕ) → Hexing l at src out i k → i < length src
-    → x ≡ letterOf (get_or src i 0 / 16) → y ≡ letterOf (get_or src i 0 % 16) → Hexing l at src (set (set out k x) (k + 1) y) (i + 1) (k + 2)
-hexing-more {l} {at} {src} {out} {i} {k} x y g h ex ey =
+pub hexing_more : {l : List ℕ} {at : ℕ} {src out : List ℕ} {i k : ℕ} (x y : ℕ) → Hexing l at src out i k → i < length src
+    → x ≡ letter_of (get_or src i 0 / 16) → y ≡ letter_of (get_or src i 0 % 16) → Hexing l at src (set (set out k x) (k + 1) y) (i + 1) (k + 2)
+hexing_more {l} {at} {src} {out} {i} {k} x y g h ex ey =
     let p : sets out k (hexes (drop i src)) ≡ sets (set (set out k x) (k + 1) y) (k + 2) (hexes (drop (i + 1) src))
     = rw (drop-cons src i 0 h, add-one i, ← ex, ← ey, add-two k, add-one k) in
     let n = g.next in
@@ -38,36 +38,36 @@ pub hexes-length : (bs : List ℕ) → length (hexes bs) ≡ 2 * length bs
 hexes-length [] = refl
 hexes-length (b ∷ bs) = let r = hexes-length bs in omega arith
 
-pub hexing-end : {l : List ℕ} {at : ℕ} {src out : List ℕ} {i k : ℕ} → Hexing l at src out i k → length src ≤ i → at + 2 * length src ≤ length l → out ≡ over l at (hexes src)
-hexing-end {l} {at} {src} {out} {i} {k} g h f =
+pub hexing_end : {l : List ℕ} {at : ℕ} {src out : List ℕ} {i k : ℕ} → Hexing l at src out i k → length src ≤ i → at + 2 * length src ≤ length l → out ≡ over l at (hexes src)
+hexing_end {l} {at} {src} {out} {i} {k} g h f =
     let p : sets out k (hexes (drop i src)) ≡ out = rw (drop_of_length-le src h) in
     sym (g.left ∙ p) ∙ sets-eq (hexes src) l at (omega (arith, hexes-length src))
 
-hex-some : (bs : List ℕ) → (length bs ≡ 0 → ⊥) → hexOf bs ≡ hexes bs
-hex-some [] h = absurd (h refl)
-hex-some (b ∷ bs) h = refl
+hex_some : (bs : List ℕ) → (length bs ≡ 0 → ⊥) → hex_of bs ≡ hexes bs
+hex_some [] h = absurd (h refl)
+hex_some (b ∷ bs) h = refl
 
-pub hex-none : (bs : List ℕ) → length bs ≡ 0 → hexOf bs ≡ 45 ∷ []
-hex-none [] e = refl
-hex-none (b ∷ bs) e = absurd (omega arith)
+pub hex_none : (bs : List ℕ) → length bs ≡ 0 → hex_of bs ≡ 45 ∷ []
+hex_none [] e = refl
+hex_none (b ∷ bs) e = absurd (omega arith)
 
-pub hex-full : {l : List ℕ} {at : ℕ} (bs : List ℕ) → (length bs ≡ 0 → ⊥) → length l < at + 2 * length bs → Wrote true l at (hexOf bs) l Put.Nothing
-hex-full {l} {at} bs p h = rw (hex-some bs p) (full (omega (arith, hexes-length bs)))
+pub hex_full : {l : List ℕ} {at : ℕ} (bs : List ℕ) → (length bs ≡ 0 → ⊥) → length l < at + 2 * length bs → Wrote true l at (hex_of bs) l Put.Nothing
+hex_full {l} {at} bs p h = rw (hex_some bs p) (full (omega (arith, hexes-length bs)))
 
-pub hex-wrote : {l : List ℕ} {at : ℕ} {l' : List ℕ} (bs : List ℕ) → (length bs ≡ 0 → ⊥) → at + 2 * length bs ≤ length l → l' ≡ over l at (hexes bs) → Wrote true l at (hexOf bs) l' (Put.Next (at + 2 * length bs))
-hex-wrote {l} {at} {l'} bs p h e =
+pub hex_wrote : {l : List ℕ} {at : ℕ} {l' : List ℕ} (bs : List ℕ) → (length bs ≡ 0 → ⊥) → at + 2 * length bs ≤ length l → l' ≡ over l at (hexes bs) → Wrote true l at (hex_of bs) l' (Put.Next (at + 2 * length bs))
+hex_wrote {l} {at} {l'} bs p h e =
     let n = hexes-length bs in
-    rw (hex-some bs p, ← n) (wrote (omega arith) e)
+    rw (hex_some bs p, ← n) (wrote (omega arith) e)
 
 -- decimal: what is left of v is x, for which i places are left
 pub record Spelling (v : ℕ) (text : List ℕ) (x i : ℕ) : Type 0 where
   pub most : i ≤ 20
   pub size : length text ≡ 20
-  pub left : decimalOf v ≡ decimals i x ++ drop i text
+  pub left : decimal_of v ≡ decimals i x ++ drop i text
 
-pub spelling-first : (text : List ℕ) (v : ℕ) → length text ≡ 20 → Spelling v text v 20
-unfolding decimalOf
-spelling-first text v n =
+pub spelling_first : (text : List ℕ) (v : ℕ) → length text ≡ 20 → Spelling v text v 20
+unfolding decimal_of
+spelling_first text v n =
     record { most = omega arith; size = n; left = rw (drop_of_length-le text {i = 20} (omega arith), append-nil) }
 
 -- a store at the place before what stands at the end
@@ -75,9 +75,9 @@ pub stored : (text : List ℕ) (j b : ℕ) → j < length text → drop j (set t
 stored text j b h =
     drop-cons (set text j b) j 0 (simp length-set h) ∙ rw (get_or-set_same text j b 0 h, drop-set-lt (suc j) text j b (omega arith))
 
-pub spelling-more : {v : ℕ} {text : List ℕ} {x i : ℕ} (b y : ℕ) → Spelling v text x i → 0 < i → b ≡ x % 10 + 48 → y ≡ x / 10 → (y ≡ 0 → ⊥) → Spelling v (set text (i - 1) b) y (i - 1)
+pub spelling_more : {v : ℕ} {text : List ℕ} {x i : ℕ} (b y : ℕ) → Spelling v text x i → 0 < i → b ≡ x % 10 + 48 → y ≡ x / 10 → (y ≡ 0 → ⊥) → Spelling v (set text (i - 1) b) y (i - 1)
 unfolding decimals
-spelling-more {v} {text} {x} {i} b y s p eb ey n =
+spelling_more {v} {text} {x} {i} b y s p eb ey n =
     let m = s.most in
     let z = s.size in
     let q : i ≡ suc (i - 1) = omega arith in
@@ -89,9 +89,9 @@ spelling-more {v} {text} {x} {i} b y s p eb ey n =
       left = s.left ∙ ap (λ (k : ℕ). decimals k x ++ drop k text) q ∙ rw (d, t) (append_assoc (decimals (i - 1) y) (b ∷ []) (drop (suc (i - 1)) text));
     }
 
-pub spelling-last : {v : ℕ} {text : List ℕ} {x i : ℕ} (b : ℕ) → Spelling v text x i → 0 < i → b ≡ x % 10 + 48 → x / 10 ≡ 0 → Ends (set text (i - 1) b) (decimalOf v) (i - 1)
+pub spelling_last : {v : ℕ} {text : List ℕ} {x i : ℕ} (b : ℕ) → Spelling v text x i → 0 < i → b ≡ x % 10 + 48 → x / 10 ≡ 0 → Ends (set text (i - 1) b) (decimal_of v) (i - 1)
 unfolding decimals
-spelling-last {v} {text} {x} {i} b s p eb e =
+spelling_last {v} {text} {x} {i} b s p eb e =
     let m = s.most in
     let z = s.size in
     let q : i ≡ suc (i - 1) = omega arith in
@@ -102,14 +102,14 @@ spelling-last {v} {text} {x} {i} b s p eb e =
       most = omega arith;
     }
 
-pub spelling-end : {v : ℕ} {text : List ℕ} {x i : ℕ} → Spelling v text x i → i ≤ 0 → Ends text (decimalOf v) 0
+pub spelling_end : {v : ℕ} {text : List ℕ} {x i : ℕ} → Spelling v text x i → i ≤ 0 → Ends text (decimal_of v) 0
 unfolding decimals
-spelling-end {v} {text} {x} {i} s h =
+spelling_end {v} {text} {x} {i} s h =
     let q : i ≡ 0 = omega arith in
     record { tail = sym (s.left ∙ ap (λ (k : ℕ). decimals k x ++ drop k text) q); most = omega arith }
 
-pub ends-part : {l bs : List ℕ} {r : ℕ} → Ends l bs r → length l ≡ 20 → take (20 - r) (drop r l) ≡ bs
-ends-part {l} {bs} {r} e n = take_all (20 - r) (drop r l) (omega (arith, length-drop r l)) ∙ e.tail
+pub ends_part : {l bs : List ℕ} {r : ℕ} → Ends l bs r → length l ≡ 20 → take (20 - r) (drop r l) ≡ bs
+ends_part {l} {bs} {r} e n = take_all (20 - r) (drop r l) (omega (arith, length-drop r l)) ∙ e.tail
 
 -- a number has as many digits as it was given places, at most
 pub decimals-length : (n v : ℕ) → length (decimals n v) ≤ n
@@ -121,6 +121,6 @@ decimals-length (suc n) v = go (decimals-length n (v / 10)) (ltb v 10)
     go h true = omega arith
     go h false = simp length-append (omega arith)
 
-pub decimal-length : (v : ℕ) → length (decimalOf v) ≤ 20
-unfolding decimalOf
-decimal-length v = decimals-length 20 v
+pub decimal_length : (v : ℕ) → length (decimal_of v) ≤ 20
+unfolding decimal_of
+decimal_length v = decimals-length 20 v

@@ -10,19 +10,19 @@ use lib.Seq.{take_at}
 use Rattle.codec.specs.Number.{over, Wrote}
 use Rattle.codec.specs.declared.number.Put.{Put}
 use Rattle.codec.specs.declared.number.Put.TheVariants as Put
-use Rattle.codec.proofs.NumberLaws.{hit, kept, chain, chain-put, from-laid, laid_none, length_over}
+use Rattle.codec.proofs.NumberLaws.{hit, kept, chain, chain_put, from_laid, laid_none, length_over}
 use Rattle.codec.proofs.Opened.{never}
 use Rattle.text.specs.Short.{Short}
 
 -- a write that had room
-pub short-put : {l : List ℕ} {at : ℕ} {bs l' : List ℕ} {p : Put} (k : ℕ) → Wrote true l at bs l' p → at + length bs ≤ length l → length bs ≤ k
+pub short_put : {l : List ℕ} {at : ℕ} {bs l' : List ℕ} {p : Put} (k : ℕ) → Wrote true l at bs l' p → at + length bs ≤ length l → length bs ≤ k
     → Short k l at bs l' (at + length bs)
-short-put {l} {at} {bs} {l'} k w h m =
+short_put {l} {at} {bs} {l'} k w h m =
     let e : l' ≡ over l at bs = kept w h in
     record { laid = record { list = e; next = refl }; most = omega arith; fits = h; kept = ap length e ∙ length_over l at bs h }
 
-next-is : {l : List ℕ} {at : ℕ} {bs l' : List ℕ} {p : Put} → Wrote true l at bs l' p → at + length bs ≤ length l → p ≡ Put.Next (at + length bs)
-next-is w h = w.answer ∙ sym (hit _ _ _ _ _ h refl)
+next_is : {l : List ℕ} {at : ℕ} {bs l' : List ℕ} {p : Put} → Wrote true l at bs l' p → at + length bs ≤ length l → p ≡ Put.Next (at + length bs)
+next_is w h = w.answer ∙ sym (hit _ _ _ _ _ h refl)
 
 -- a text of at most k characters always finds k places
 module _ {l : List ℕ} {at : ℕ} {bs l' : List ℕ} {p : Put} (k : ℕ) (w : Wrote true l at bs l' p) (m : length bs ≤ k) (h : at + k ≤ length l) where
@@ -31,16 +31,16 @@ module _ {l : List ℕ} {at : ℕ} {bs l' : List ℕ} {p : Put} (k : ℕ) (w : W
 
   pub put_next : {n : ℕ} → p ≡ Put.Next n → Short k l at bs l' n
   put_next {n} e =
-      let q : Put.Next (at + length bs) ≡ Put.Next n = sym (next-is w room) ∙ e in
+      let q : Put.Next (at + length bs) ≡ Put.Next n = sym (next_is w room) ∙ e in
       let z : at + length bs ≡ n = cc in
-      rw (← z) (short-put k w room m)
+      rw (← z) (short_put k w room m)
 
-  pub put-nothing : {G : Type 0} → p ≡ Put.Nothing → G
-  put-nothing e = let q : Put.Next (at + length bs) ≡ Put.Nothing = sym (next-is w room) ∙ e in never (cc)
+  pub put_nothing : {G : Type 0} → p ≡ Put.Nothing → G
+  put_nothing e = let q : Put.Next (at + length bs) ≡ Put.Nothing = sym (next_is w room) ∙ e in never (cc)
 
 -- one after the other
-pub short-then : {j n : ℕ} {l : List ℕ} {at : ℕ} {xs ys m l' : List ℕ} {k r : ℕ} → Short j l at xs m k → Short n m k ys l' r → Short (j + n) l at (xs ++ ys) l' r
-short-then {j} {n} {l} {at} {xs} {ys} a b =
+pub short_then : {j n : ℕ} {l : List ℕ} {at : ℕ} {xs ys m l' : List ℕ} {k r : ℕ} → Short j l at xs m k → Short n m k ys l' r → Short (j + n) l at (xs ++ ys) l' r
+short_then {j} {n} {l} {at} {xs} {ys} a b =
     let p = a.laid.next in
     let q = a.kept in
     let f = b.fits in
@@ -54,8 +54,8 @@ short-then {j} {n} {l} {at} {xs} {ys} a b =
     }
 
 -- the same text under another name, and a wider bound
-pub short-as : {j k : ℕ} {l : List ℕ} {at : ℕ} {bs cs l' : List ℕ} {r : ℕ} → Short j l at bs l' r → bs ≡ cs → j ≤ k → Short k l at cs l' r
-short-as {j} {k} {l} {at} {bs} {cs} {l'} {r} a e h =
+pub short_as : {j k : ℕ} {l : List ℕ} {at : ℕ} {bs cs l' : List ℕ} {r : ℕ} → Short j l at bs l' r → bs ≡ cs → j ≤ k → Short k l at cs l' r
+short_as {j} {k} {l} {at} {bs} {cs} {l'} {r} a e h =
     let b : Short j l at cs l' r = rw e at a in
     let m = b.most in
     record { laid = b.laid; most = omega arith; fits = b.fits; kept = b.kept }
@@ -65,26 +65,26 @@ pub short_none : (l : List ℕ) (at k : ℕ) → at ≤ length l → Short k l a
 short_none l at k h = record { laid = laid_none refl; most = omega arith; fits = omega arith; kept = refl }
 
 -- what was laid is written
-pub short-wrote : {k : ℕ} {l : List ℕ} {at : ℕ} {bs l' : List ℕ} {r : ℕ} → Short k l at bs l' r → Wrote true l at bs l' (Put.Next r)
-short-wrote a = from-laid refl a.fits a.laid
+pub short_wrote : {k : ℕ} {l : List ℕ} {at : ℕ} {bs l' : List ℕ} {r : ℕ} → Short k l at bs l' r → Wrote true l at bs l' (Put.Next r)
+short_wrote a = from_laid refl a.fits a.laid
 
 -- what was laid at the front is the front
-pub front-is : {k : ℕ} {l bs l' : List ℕ} {n : ℕ} → Short k l 0 bs l' n → take n l' ≡ bs
-front-is {k} {l} {bs} {l'} {n} a =
+pub front_is : {k : ℕ} {l bs l' : List ℕ} {n : ℕ} → Short k l 0 bs l' n → take n l' ≡ bs
+front_is {k} {l} {bs} {l'} {n} a =
     let e : n ≡ length bs = a.laid.next ∙ zero-add (length bs) in
     rw (a.laid.list, e) (take_at bs (drop (0 + length bs) l) (length bs) refl)
 
 pub front_length : {k : ℕ} {l bs l' : List ℕ} {n : ℕ} → Short k l 0 bs l' n → n ≡ length (take n l')
-front_length {k} {l} {bs} {l'} {n} a = a.laid.next ∙ zero-add (length bs) ∙ sym (ap length (front-is a))
+front_length {k} {l} {bs} {l'} {n} a = a.laid.next ∙ zero-add (length bs) ∙ sym (ap length (front_is a))
 
-pub short-is : {k : ℕ} {l : List ℕ} {at : ℕ} {bs cs l' : List ℕ} {r : ℕ} → Short k l at bs l' r → bs ≡ cs → Short k l at cs l' r
-short-is a e = rw e at a
+pub short_is : {k : ℕ} {l : List ℕ} {at : ℕ} {bs cs l' : List ℕ} {r : ℕ} → Short k l at bs l' r → bs ≡ cs → Short k l at cs l' r
+short_is a e = rw e at a
 
 -- a text, then one that may be long
 pub after_front : {l : List ℕ} {at : ℕ} {xs ys m l' : List ℕ} {p r : Put} → Wrote true l at xs m p → Wrote true m (at + length xs) ys l' r
     → at + length xs + length ys ≤ length l → Wrote true l at (xs ++ ys) l' r
 after_front {l} {at} {xs} {ys} {m} {l'} {p} {r} a b h =
-    let s = short-put (length xs) a (omega arith) (omega arith) in
+    let s = short_put (length xs) a (omega arith) (omega arith) in
     let q = s.kept in
-    let y : r ≡ Put.Next (at + length xs + length ys) = next-is b (omega arith) in
-    rw y (from-laid refl (rw (length-append xs ys) (omega arith)) (chain-put s.laid b (omega arith)))
+    let y : r ≡ Put.Next (at + length xs + length ys) = next_is b (omega arith) in
+    rw y (from_laid refl (rw (length-append xs ys) (omega arith)) (chain_put s.laid b (omega arith)))

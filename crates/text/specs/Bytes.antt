@@ -1,9 +1,9 @@
 -- Bytes: two hexadecimal digits for each, or '-' for none.
 use Rattle.std.specs.Prelude.{ℕ, ◌+◌, ◌*◌, ◌%◌, ◌≡◌, Bool, ◌&&◌, ◌||◌, List, [], ◌∷◌, length, ltb, leb, eqb}
 use Rattle.codec.specs.Choice.{pick}
-use Rattle.text.specs.Digit.{digitOf, all_below}
+use Rattle.text.specs.Digit.{digit_of, all_below}
 use Rattle.codec.specs.Number.{over}
-use Rattle.text.specs.Line.{sameOf}
+use Rattle.text.specs.Line.{same_of}
 use Rattle.text.specs.declared.bytes.Bytes.{Bytes}
 use Rattle.text.specs.declared.bytes.Bytes.TheVariants as Bytes
 
@@ -11,11 +11,11 @@ use Rattle.text.specs.declared.bytes.Bytes.TheVariants as Bytes
 abbrev pub pairs : List ℕ → List ℕ
 pairs [] = []
 pairs (a ∷ []) = []
-pairs (a ∷ b ∷ cs) = (digitOf a * 16 + digitOf b) ∷ pairs cs
+pairs (a ∷ b ∷ cs) = (digit_of a * 16 + digit_of b) ∷ pairs cs
 
 -- a word that is bytes: '-', or an even number of digits, at least two
 unfoldable pub spells : List ℕ → Bool
-spells w = sameOf w (45 ∷ []) || (ltb 0 (length w) && eqb (length w % 2) 0 && all_below 16 w)
+spells w = same_of w (45 ∷ []) || (ltb 0 (length w) && eqb (length w % 2) 0 && all_below 16 w)
 
 -- where the word is bytes and l has room, they stand at its front; else nothing changed
 pub record Filled (good : Bool) (bs l l' : List ℕ) (r : Bytes) : Type 0 where

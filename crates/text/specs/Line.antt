@@ -22,8 +22,8 @@ trimmed [] = []
 trimmed (x ∷ xs) = grow x (trimmed xs)
 
 -- a line without its comment, which '#' starts, and then without its trailing spaces
-unfoldable pub keptOf : List ℕ → List ℕ
-keptOf l = trimmed (take (ahead 35 l) l)
+unfoldable pub kept_of : List ℕ → List ℕ
+kept_of l = trimmed (take (ahead 35 l) l)
 
 -- x before the first word
 abbrev pub before : ℕ → List (List ℕ) → List (List ℕ)
@@ -42,8 +42,8 @@ words_of l = length (split l)
 unfoldable pub word_of : List ℕ → ℕ → List ℕ
 word_of l k = get_or (split l) k []
 
-abbrev pub sameOf : List ℕ → List ℕ → Bool
-sameOf [] [] = true
-sameOf [] (y ∷ ys) = false
-sameOf (x ∷ xs) [] = false
-sameOf (x ∷ xs) (y ∷ ys) = eqb x y && sameOf xs ys
+abbrev pub same_of : List ℕ → List ℕ → Bool
+same_of [] [] = true
+same_of [] (y ∷ ys) = false
+same_of (x ∷ xs) [] = false
+same_of (x ∷ xs) (y ∷ ys) = eqb x y && same_of xs ys

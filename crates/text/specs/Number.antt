@@ -1,30 +1,30 @@
 -- Numbers: decimal, or hexadecimal after "0x".
 use Rattle.std.specs.Prelude.{ℕ, ◌+◌, ◌*◌, Bool, ◌&&◌, List, [], ◌∷◌, length, get_or, drop, leb, eqb}
 use Rattle.codec.specs.Choice.{pick}
-use Rattle.text.specs.Digit.{digitOf, all_below}
+use Rattle.text.specs.Digit.{digit_of, all_below}
 use Rattle.text.specs.declared.number.Number.{Number}
 use Rattle.text.specs.declared.number.Number.TheVariants as Number
 
 -- the number that digits are, the highest first, after digits that are worth a
 abbrev pub value : ℕ → ℕ → List ℕ → ℕ
 value base a [] = a
-value base a (c ∷ cs) = value base (a * base + digitOf c) cs
+value base a (c ∷ cs) = value base (a * base + digit_of c) cs
 
 -- one more digit
-unfoldable pub grownOf : ℕ → ℕ → ℕ → ℕ → Number
-grownOf base most v d = pick (leb (v * base + d) most) (Number.Is (v * base + d)) Number.Bad
+unfoldable pub grown_of : ℕ → ℕ → ℕ → ℕ → Number
+grown_of base most v d = pick (leb (v * base + d) most) (Number.Is (v * base + d)) Number.Bad
 
 -- digits of this base after digits that are worth a: their number, unless it is more than most
 unfoldable pub rest_of : ℕ → ℕ → ℕ → List ℕ → Number
 rest_of base most a cs = pick (all_below base cs && leb (value base a cs) most) (Number.Is (value base a cs)) Number.Bad
 
 -- one or more of them
-unfoldable pub digitsOf : ℕ → ℕ → List ℕ → Number
-digitsOf base most cs = pick (eqb (length cs) 0) Number.Bad (rest_of base most 0 cs)
+unfoldable pub digits_of : ℕ → ℕ → List ℕ → Number
+digits_of base most cs = pick (eqb (length cs) 0) Number.Bad (rest_of base most 0 cs)
 
 -- a word that starts "0x"
 unfoldable pub hexed : List ℕ → Bool
 hexed w = leb 2 (length w) && eqb (get_or w 0 0) 48 && eqb (get_or w 1 0) 120
 
 unfoldable pub number_of : List ℕ → ℕ → Number
-number_of w most = pick (hexed w) (digitsOf 16 most (drop 2 w)) (digitsOf 10 most w)
+number_of w most = pick (hexed w) (digits_of 16 most (drop 2 w)) (digits_of 10 most w)

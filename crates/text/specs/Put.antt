@@ -3,18 +3,18 @@ use Rattle.std.specs.Prelude.{ℕ, zero, suc, ◌+◌, ◌/◌, ◌%◌, ◌≤�
 use Rattle.codec.specs.Choice.{pick}
 
 -- '0' to '9' and 'a' to 'f'
-unfoldable pub letterOf : ℕ → ℕ
-letterOf v = pick (ltb v 10) (v + 48) (v + 87)
+unfoldable pub letter_of : ℕ → ℕ
+letter_of v = pick (ltb v 10) (v + 48) (v + 87)
 
 -- two digits for each byte
 abbrev pub hexes : List ℕ → List ℕ
 hexes [] = []
-hexes (b ∷ bs) = letterOf (b / 16) ∷ letterOf (b % 16) ∷ hexes bs
+hexes (b ∷ bs) = letter_of (b / 16) ∷ letter_of (b % 16) ∷ hexes bs
 
 -- and '-' for no bytes
-abbrev pub hexOf : List ℕ → List ℕ
-hexOf [] = 45 ∷ []
-hexOf (b ∷ bs) = hexes (b ∷ bs)
+abbrev pub hex_of : List ℕ → List ℕ
+hex_of [] = 45 ∷ []
+hex_of (b ∷ bs) = hexes (b ∷ bs)
 
 -- the decimal digits of v, the highest first and at most n of them
 unfoldable pub decimals : ℕ → ℕ → List ℕ
@@ -22,8 +22,8 @@ decimals zero v = []
 decimals (suc n) v = pick (ltb v 10) ((v + 48) ∷ []) (decimals n (v / 10) ++ ((v % 10 + 48) ∷ []))
 
 -- no number of 64 bits has more than 20
-unfoldable pub decimalOf : ℕ → List ℕ
-decimalOf v = decimals 20 v
+unfoldable pub decimal_of : ℕ → List ℕ
+decimal_of v = decimals 20 v
 
 -- bs are what a list of 20 ends with, from index r on
 pub record Ends (l bs : List ℕ) (r : ℕ) : Type 0 where

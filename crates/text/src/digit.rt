@@ -1,10 +1,10 @@
 // What a digit is worth.
 ghost use Rattle.codec.specs.Number.{Below};
-ghost use Rattle.text.specs.Digit.{digitOf};
+ghost use Rattle.text.specs.Digit.{digit_of};
 
 // One answer for every byte: what is no digit is worth 16, which no base that is read reaches.
 pub fn value(c: u8) -> u64
-    ensures { Below (digitOf c) 17 result }
+    ensures { Below (digit_of c) 17 result }
 {
     if c < b'0' {
         return 16;

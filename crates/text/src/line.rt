@@ -1,6 +1,6 @@
 // A line: its comment and trailing spaces cut, and its words.
 ghost use Rattle.std.specs.Prelude.{◌≡◌};
-ghost use Rattle.text.specs.Line.{Found, trimmed, keptOf, words_of, word_of, sameOf};
+ghost use Rattle.text.specs.Line.{Found, trimmed, kept_of, words_of, word_of, same_of};
 
 // Where b first stands, or the length.
 pub fn find(s: &[u8], b: u8) -> usize
@@ -31,7 +31,7 @@ fn trim(s: &[u8]) -> &[u8]
 
 // The line without its comment, and then without the spaces at its end.
 pub fn kept(line: &[u8]) -> &[u8]
-    ensures { result.now ≡ keptOf line.now }
+    ensures { result.now ≡ kept_of line.now }
 {
     let n = find(line, b'#');
     trim(&line[..n])
@@ -71,7 +71,7 @@ pub fn word(s: &[u8], k: usize) -> &[u8]
 }
 
 pub fn same(a: &[u8], b: &[u8]) -> bool
-    ensures { result ≡ sameOf a.now b.now }
+    ensures { result ≡ same_of a.now b.now }
 {
     if a.len() != b.len() {
         return false;

@@ -1,6 +1,6 @@
 // Numbers: decimal, or hexadecimal after `0x`.
 ghost use Rattle.std.specs.Prelude.{◌≡◌, ◌<◌};
-ghost use Rattle.text.specs.Number.{grownOf, digitsOf, number_of};
+ghost use Rattle.text.specs.Number.{grown_of, digits_of, number_of};
 
 #[derive(Drop)]
 pub enum Number {
@@ -11,7 +11,7 @@ pub enum Number {
 // v with one more digit. The limit is asked of v, since the grown number may not fit 64 bits.
 fn grown(v: u64, base: u64, d: u64, most: u64) -> Number
     requires { 0 < base }
-    ensures { result ≡ grownOf base most v d }
+    ensures { result ≡ grown_of base most v d }
 {
     if most < d {
         return Number::Bad;
@@ -25,7 +25,7 @@ fn grown(v: u64, base: u64, d: u64, most: u64) -> Number
 
 fn digits(s: &[u8], base: u64, most: u64) -> Number
     requires { 0 < base }
-    ensures { result ≡ digitsOf base most s.now }
+    ensures { result ≡ digits_of base most s.now }
 {
     if s.len() == 0 {
         return Number::Bad;

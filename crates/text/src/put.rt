@@ -1,13 +1,13 @@
 // Text written over a slice at an index.
 ghost use Rattle.std.specs.Prelude.{◌≡◌, ◌+◌, ◌*◌, ◌<◌, ◌≤◌, length, true};
 ghost use Rattle.codec.specs.Number.{over, Wrote};
-ghost use Rattle.text.specs.Put.{letterOf, hexes, hexOf, decimalOf, Ends};
+ghost use Rattle.text.specs.Put.{letter_of, hexes, hex_of, decimal_of, Ends};
 
 use codec::number::Put;
 
 fn letter(v: u8) -> u8
     requires { v < 16 }
-    ensures { result ≡ letterOf v }
+    ensures { result ≡ letter_of v }
 {
     if v < 10 { v + 48 } else { v + 87 }
 }
@@ -29,7 +29,7 @@ fn lay_hex(out: &mut [u8], at: usize, src: &[u8])
 
 // Two lower-case digits for each byte, and `-` for no bytes.
 pub fn hex(out: &mut [u8], at: usize, src: &[u8]) -> Put
-    ensures { Wrote true out.old at (hexOf src.now) out.new result }
+    ensures { Wrote true out.old at (hex_of src.now) out.new result }
 {
     if src.len() == 0 {
         return codec::number::put_bytes(out, at, b"-");
@@ -48,7 +48,7 @@ pub fn hex(out: &mut [u8], at: usize, src: &[u8]) -> Put
 // The decimal digits of v at the end of text, from the last to the first; answers where they start.
 fn spell(text: &mut [u8], v: u64) -> usize
     requires { length text.old ≡ 20 }
-    ensures { Ends text.new (decimalOf v) result }
+    ensures { Ends text.new (decimal_of v) result }
 {
     let mut x = v;
     let mut i = 20;
@@ -64,7 +64,7 @@ fn spell(text: &mut [u8], v: u64) -> usize
 }
 
 pub fn decimal(out: &mut [u8], at: usize, v: u64) -> Put
-    ensures { Wrote true out.old at (decimalOf v) out.new result }
+    ensures { Wrote true out.old at (decimal_of v) out.new result }
 {
     let mut text = [0u8; 20];
     let i = spell(&mut text, v);

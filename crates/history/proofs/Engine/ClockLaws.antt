@@ -8,21 +8,21 @@ use Rattle.codec.specs.Choice.{pick}
 use Rattle.codec.specs.declared.time.Time.{Time}
 use Rattle.codec.specs.declared.time.Nanos.{Nanos}
 use Rattle.codec.proofs.Opened.{never}
-use Rattle.framer.specs.Meter.{backFor}
-use Rattle.bus.specs.Report.{canReport, linReport, flexrayReport, frameReport, conflictReport, errorReport}
+use Rattle.framer.specs.Meter.{back_for}
+use Rattle.bus.specs.Report.{can_report, lin_report, flexray_report, frame_report, conflict_report, error_report}
 use Rattle.bus.specs.declared.report.Report.{Report}
 use Rattle.mirror.specs.Engine.{timed}
-use Rattle.mirror.specs.Report.{reportOf}
-use Rattle.mirror.specs.Tick.{tickOf}
+use Rattle.mirror.specs.Report.{report_of}
+use Rattle.mirror.specs.Tick.{tick_of}
 use Rattle.mirror.specs.Call.{Call, step_of, run_of}
 use Rattle.mirror.specs.Call as Call
 use Rattle.mirror.specs.declared.engine.Engine.{Engine}
 use Rattle.mirror.specs.declared.engine.Outcome.{Outcome}
 use Rattle.history.specs.Ledger.{Limits, Ledger}
-use Rattle.history.specs.Deed.{Deed, deedsOf, done}
-use Rattle.history.specs.Clock.{behind, tellsBy, saysBy}
+use Rattle.history.specs.Deed.{Deed, deeds_of, done}
+use Rattle.history.specs.Clock.{behind, tells_by, says_by}
 use Rattle.history.specs.History.{Plain, All}
-use Rattle.history.proofs.Framer.MeterLaws.{back-same}
+use Rattle.history.proofs.Framer.MeterLaws.{back_same}
 use Rattle.history.proofs.Framer.SimLaws.{Tied}
 use Rattle.history.proofs.Engine.RunLaws.{deed_of}
 
@@ -39,25 +39,25 @@ number_is o back n q = go (eqb o.answer 0)
     go false = refl
 
 module _ (c : Limits) (e : Engine) (l : Ledger) (t : Tied c e.framer l) where
-  back_is : (x : Time) → (backFor e.framer.meter x).0 ≡ behind l x
-  back_is x = rw t.tie.meter (back-same c l x)
+  back_is : (x : Time) → (back_for e.framer.meter x).0 ≡ behind l x
+  back_is x = rw t.tie.meter (back_same c l x)
 
-  report-tells : (r : Report) (payload : List ℕ) → (reportOf e r payload).back.0 ≡ pick (eqb (reportOf e r payload).answer 0) (behind l r.time) 0
-  unfolding reportOf
-  report-tells r payload = number_is _ _ _ (back_is r.time)
+  report_tells : (r : Report) (payload : List ℕ) → (report_of e r payload).back.0 ≡ pick (eqb (report_of e r payload).answer 0) (behind l r.time) 0
+  unfolding report_of
+  report_tells r payload = number_is _ _ _ (back_is r.time)
 
-  tick-tells : (x : Time) → (tickOf e x).back.0 ≡ pick (eqb (tickOf e x).answer 0) (behind l x) 0
-  unfolding tickOf
-  tick-tells x = number_is _ _ _ (back_is x)
+  tick_tells : (x : Time) → (tick_of e x).back.0 ≡ pick (eqb (tick_of e x).answer 0) (behind l x) 0
+  unfolding tick_of
+  tick_tells x = number_is _ _ _ (back_is x)
 
-  pub tells-by : (x : Call) → saysBy (deed_of e x) ≡ tellsBy l (deed_of e x)
-  unfolding saysBy tellsBy done canReport linReport flexrayReport errorReport
-  tells-by (Call.can source x key payload) = ap one (report-tells (canReport source x key) payload)
-  tells-by (Call.lin source x pid bits payload) = ap one (report-tells (linReport source x pid bits) payload)
-  tells-by (Call.flexray source x channels slot cycle payload) = ap one (report-tells (frameReport source x channels slot cycle) payload)
-  tells-by (Call.conflict source x channels slot cycle) = ap one (report-tells (conflictReport source x channels slot cycle) [])
-  tells-by (Call.flexray-error source x channels bits) = ap one (report-tells (errorReport source x channels bits) [])
-  tells-by (Call.tick x) = ap one (tick-tells x)
+  pub tells-by : (x : Call) → says_by (deed_of e x) ≡ tells_by l (deed_of e x)
+  unfolding says_by tells_by done can_report lin_report flexray_report error_report
+  tells-by (Call.can source x key payload) = ap one (report_tells (can_report source x key) payload)
+  tells-by (Call.lin source x pid bits payload) = ap one (report_tells (lin_report source x pid bits) payload)
+  tells-by (Call.flexray source x channels slot cycle payload) = ap one (report_tells (frame_report source x channels slot cycle) payload)
+  tells-by (Call.conflict source x channels slot cycle) = ap one (report_tells (conflict_report source x channels slot cycle) [])
+  tells-by (Call.flexray-error source x channels bits) = ap one (report_tells (error_report source x channels bits) [])
+  tells-by (Call.tick x) = ap one (tick_tells x)
   tells-by (Call.setup size room deadline pairs) = refl
   tells-by (Call.switch size room deadline) = refl
   tells-by Call.offline = refl
@@ -82,15 +82,15 @@ pub record Moment (e : Engine) (before : List Deed) (d : Deed) : Type 0 where
   pub calls : List Call
   pub call : Call
   pub plain : All Plain calls
-  pub deeds : before ≡ deedsOf e calls
+  pub deeds : before ≡ deeds_of e calls
   pub deed : d ≡ deed_of (run_of e calls) call
 
-pub moment : (e : Engine) (xs : List Call) (before after : List Deed) (d : Deed) → deedsOf e xs ≡ before ++ (d ∷ after) → All Plain xs → Moment e before d
+pub moment : (e : Engine) (xs : List Call) (before after : List Deed) (d : Deed) → deeds_of e xs ≡ before ++ (d ∷ after) → All Plain xs → Moment e before d
 moment e [] [] after d q p = never (cc)
 moment e [] (b ∷ before) after d q p = never (cc)
 moment e (x ∷ xs) [] after d q p = record { calls = []; call = x; plain = tt; deeds = refl; deed = cc }
 moment e (x ∷ xs) (b ∷ before) after d q p =
-    let r : deedsOf (step_of e x).engine xs ≡ before ++ (d ∷ after) = cc in
+    let r : deeds_of (step_of e x).engine xs ≡ before ++ (d ∷ after) = cc in
     let z : b ≡ deed_of e x = cc in
     let m = moment (step_of e x).engine xs before after d r p.1 in
     record { calls = x ∷ m.calls; call = m.call; plain = (p.0, m.plain); deeds = λ i. z i ∷ m.deeds i; deed = m.deed }

@@ -8,54 +8,54 @@ use lib.ListN.{length, drop}
 use lib.Dec.{ltb, leb, eqb}
 use borrow.Author.Tests.{ne_eqb, le-ltb, le-leb}
 use Rattle.codec.specs.Choice.{pick}
-use Rattle.codec.specs.Time.{ns, elapsed, ticksOf, overdueOf}
-use Rattle.codec.specs.Item.{itemLength}
+use Rattle.codec.specs.Time.{ns, elapsed, ticks_of, overdue_of}
+use Rattle.codec.specs.Item.{item_length}
 use Rattle.codec.specs.declared.time.Time.{Time}
 use Rattle.codec.specs.declared.time.Ticks.{Ticks}
 use Rattle.codec.specs.declared.time.Nanos.{Nanos}
 use Rattle.codec.specs.declared.time.Elapsed.TheVariants as Elapsed
-use Rattle.codec.proofs.BoolLaws.{or-false, or-true}
-use Rattle.framer.specs.Meter.{isWithin, ticksIn, back_in, stateShown, item_of, offsetFor, backFor, closesFor, counted, closedMeter, placedMeter, takenMeter, failedMeter}
-use Rattle.framer.specs.Framer.{itemSize, filledMeter}
+use Rattle.codec.proofs.BoolLaws.{or_false, or_true}
+use Rattle.framer.specs.Meter.{is_within, ticks_in, back_in, state_shown, item_of, offset_for, back_for, closes_for, counted, closed_meter, placed_meter, taken_meter, failed_meter}
+use Rattle.framer.specs.Framer.{item_size, filled_meter}
 use Rattle.framer.specs.declared.meter.Meter.{Meter}
-use Rattle.framer.proofs.FramerLaws.{back_by, fail-none, fail-out}
+use Rattle.framer.proofs.FramerLaws.{back_by, fail_none, fail_out}
 use Rattle.history.specs.Account.{Event}
-use Rattle.history.specs.Ledger.{Limits, Line, Frame, Ledger, stateIn, itemIn, sizeIn, total, is_empty, keptIn, discardCount, waitingIn, failuresIn, failureCount, isOut, offsetIn, line_for, closesBefore, hasRoom, overdue, close, enter, taken}
+use Rattle.history.specs.Ledger.{Limits, Line, Frame, Ledger, state_in, item_in, size_in, total, is_empty, kept_in, discard_count, waiting_in, failures_in, failure_count, is_out, offset_in, line_for, closes_before, has_room, overdue, close, enter, taken}
 use Rattle.history.specs.Clock.{behind}
-use Rattle.history.proofs.Ground.Machine.{offerIn}
-use Rattle.history.proofs.Ground.BitLaws.{raise-lost}
+use Rattle.history.proofs.Ground.Machine.{offer_in}
+use Rattle.history.proofs.Ground.BitLaws.{raise_lost}
 use Rattle.history.proofs.Ground.TestLaws.{not-leb}
-use Rattle.history.proofs.Ground.ListLaws.{snoc-filled}
-use Rattle.history.proofs.Ledger.Moves.{opened, taken_none, taken-one, tookOne, failedOne}
-use Rattle.history.proofs.Ledger.LedgerLaws.{SoundL, close-waits, close-discards, took-waiting}
-use Rattle.history.proofs.Ledger.FrameLaws.{total-more}
+use Rattle.history.proofs.Ground.ListLaws.{snoc_filled}
+use Rattle.history.proofs.Ledger.Moves.{opened, taken_none, taken_one, took_one, failed_one}
+use Rattle.history.proofs.Ledger.LedgerLaws.{SoundL, close_waits, close_discards, took_waiting}
+use Rattle.history.proofs.Ledger.FrameLaws.{total_more}
 
 -- how far the frame being filled is written
-unfoldable pub filledIn : List Line → ℕ
-filledIn xs = pick (is_empty xs) 0 (14 + total xs)
+unfoldable pub filled_in : List Line → ℕ
+filled_in xs = pick (is_empty xs) 0 (14 + total xs)
 
 -- the framer's numbers where the ledger is l
-unfoldable pub meterOf : Limits → Ledger → Meter
-meterOf c l = record {
+unfoldable pub meter_of : Limits → Ledger → Meter
+meter_of c l = record {
   size = c.size;
   room = c.room;
   deadline = record { 0 = c.deadline };
-  filled = filledIn l.filling.lines;
+  filled = filled_in l.filling.lines;
   time = l.filling.time;
   sequence = l.next;
   lost = l.lost;
-  discards = discardCount l;
-  out = isOut l.sends;
-  failures = failureCount l;
+  discards = discard_count l;
+  out = is_out l.sends;
+  failures = failure_count l;
   first = length l.sends % 8;
-  waiting = length (waitingIn l);
+  waiting = length (waiting_in l);
 }
 
 -- a meter by its fields
-meter-path : {m n : Meter} → m.size ≡ n.size → m.room ≡ n.room → m.deadline ≡ n.deadline → m.filled ≡ n.filled → m.time ≡ n.time
+meter_path : {m n : Meter} → m.size ≡ n.size → m.room ≡ n.room → m.deadline ≡ n.deadline → m.filled ≡ n.filled → m.time ≡ n.time
     → m.sequence ≡ n.sequence → m.lost ≡ n.lost → m.discards ≡ n.discards → m.out ≡ n.out → m.failures ≡ n.failures → m.first ≡ n.first
     → m.waiting ≡ n.waiting → m ≡ n
-meter-path a b d f g h i j u v k o = λ x. record {
+meter_path a b d f g h i j u v k o = λ x. record {
   size = a x;
   room = b x;
   deadline = d x;
@@ -71,38 +71,38 @@ meter-path a b d f g h i j u v k o = λ x. record {
 }
 
 -- the item of a line is the one that the framer makes
-pub item-same : (lost : Bool) (k : ℕ) (ev : Event) → ev.state < 128
-    → item_of lost (record { 0 = k }) (offerIn ev) ≡ itemIn (record { event = ev; offset = k; lost = lost })
-unfolding item_of itemIn offerIn stateShown stateIn
-item-same true k ev h = rw (raise-lost ev.state h)
-item-same false k ev h = refl
+pub item_same : (lost : Bool) (k : ℕ) (ev : Event) → ev.state < 128
+    → item_of lost (record { 0 = k }) (offer_in ev) ≡ item_in (record { event = ev; offset = k; lost = lost })
+unfolding item_of item_in offer_in state_shown state_in
+item_same true k ev h = rw (raise_lost ev.state h)
+item_same false k ev h = refl
 
 -- and as long, wherever it stands
 size_same : (l : Ledger) (ev : Event) (k : Ticks) → ev.state < 128
-    → itemLength (item_of l.lost k (offerIn ev)) (length ev.payload) ≡ sizeIn (line_for l ev)
-unfolding sizeIn line_for itemIn stateIn
-size_same l ev k h = rw (item-same l.lost k.0 ev h)
+    → item_length (item_of l.lost k (offer_in ev)) (length ev.payload) ≡ size_in (line_for l ev)
+unfolding size_in line_for item_in state_in
+size_same l ev k h = rw (item_same l.lost k.0 ev h)
 
 -- 0 says that the frame has no line
-pub filled_zero : (xs : List Line) → eqb (filledIn xs) 0 ≡ is_empty xs
-unfolding filledIn
+pub filled_zero : (xs : List Line) → eqb (filled_in xs) 0 ≡ is_empty xs
+unfolding filled_in
 filled_zero [] = refl
 filled_zero (x ∷ xs) = ne_eqb (14 + total (x ∷ xs)) 0 (λ e. let z : ⊥ = omega arith in z)
 
-pub filled-open : (xs : List Line) → is_empty xs ≡ false → filledIn xs ≡ 14 + total xs
-unfolding filledIn
-filled-open xs e = rw e
+pub filled_open : (xs : List Line) → is_empty xs ≡ false → filled_in xs ≡ 14 + total xs
+unfolding filled_in
+filled_open xs e = rw e
 
 -- rule 2's two tests of time are the measure's answers
-not_within : (h t : ℕ) → not (isWithin (elapsed h t)) ≡ (ltb t h || ltb 65535 ((t - h) / 10000))
-unfolding elapsed ticksOf
+not_within : (h t : ℕ) → not (is_within (elapsed h t)) ≡ (ltb t h || ltb 65535 ((t - h) / 10000))
+unfolding elapsed ticks_of
 not_within h t = go (ltb t h) (leb ((t - h) / 10000) 65535) refl refl
   where
-    go : (a b : Bool) → ltb t h ≡ a → leb ((t - h) / 10000) 65535 ≡ b → not (isWithin (elapsed h t)) ≡ (ltb t h || ltb 65535 ((t - h) / 10000))
+    go : (a b : Bool) → ltb t h ≡ a → leb ((t - h) / 10000) 65535 ≡ b → not (is_within (elapsed h t)) ≡ (ltb t h || ltb 65535 ((t - h) / 10000))
     go true b e g = rw e
     go false b e g = rw (e, ← not-leb ((t - h) / 10000) 65535, g) (two b)
       where
-        two : (b : Bool) → not (isWithin (pick b (Elapsed.Ticks (record { 0 = (t - h) / 10000 })) Elapsed.TooFar)) ≡ not b
+        two : (b : Bool) → not (is_within (pick b (Elapsed.Ticks (record { 0 = (t - h) / 10000 })) Elapsed.TooFar)) ≡ not b
         two true = refl
         two false = refl
 
@@ -111,71 +111,71 @@ same_test : (b x : Bool) (size f g n m : ℕ) → (b ≡ false → f ≡ g) → 
 same_test true x size f g n m e h = refl
 same_test false x size f g n m e h = rw (e refl, h)
 
-pub closes-same : (c : Limits) (l : Ledger) (ev : Event) → ev.state < 128
-    → closesFor (meterOf c l) ev.time (offerIn ev) (length ev.payload) ≡ closesBefore c l ev
-unfolding closesFor closesBefore meterOf offsetIn
-closes-same c l ev h =
+pub closes_same : (c : Limits) (l : Ledger) (ev : Event) → ev.state < 128
+    → closes_for (meter_of c l) ev.time (offer_in ev) (length ev.payload) ≡ closes_before c l ev
+unfolding closes_for closes_before meter_of offset_in
+closes_same c l ev h =
     rw (filled_zero l.filling.lines, not_within (ns l.filling.time) (ns ev.time))
     (same_test (is_empty l.filling.lines) (ltb (ns ev.time) (ns l.filling.time) || ltb 65535 ((ns ev.time - ns l.filling.time) / 10000)) c.size
-    (filledIn l.filling.lines) (14 + total l.filling.lines) (itemLength (item_of l.lost (record { 0 = 0 }) (offerIn ev)) (length ev.payload)) (sizeIn (line_for l ev))
-    (filled-open l.filling.lines) (size_same l ev (record { 0 = 0 }) h))
+    (filled_in l.filling.lines) (14 + total l.filling.lines) (item_length (item_of l.lost (record { 0 = 0 }) (offer_in ev)) (length ev.payload)) (size_in (line_for l ev))
+    (filled_open l.filling.lines) (size_same l ev (record { 0 = 0 }) h))
 
 -- rule 6
-pub overdue-same : (c : Limits) (l : Ledger) (x : Time)
-    → not (eqb (meterOf c l).filled 0) && overdueOf (ns (meterOf c l).time) (ns x) (meterOf c l).deadline.0 ≡ overdue c l x
-unfolding meterOf overdue overdueOf
-overdue-same c l x = rw (filled_zero l.filling.lines)
+pub overdue_same : (c : Limits) (l : Ledger) (x : Time)
+    → not (eqb (meter_of c l).filled 0) && overdue_of (ns (meter_of c l).time) (ns x) (meter_of c l).deadline.0 ≡ overdue c l x
+unfolding meter_of overdue overdue_of
+overdue_same c l x = rw (filled_zero l.filling.lines)
 
 -- the ticks since the header time
-pub ticks-same : (h t : ℕ) → h ≤ t → (t - h) / 10000 ≤ 65535 → ticksIn (elapsed h t) ≡ record { 0 = (t - h) / 10000 }
-unfolding elapsed ticksOf
-ticks-same h t a b = rw (le-ltb t h a, le-leb ((t - h) / 10000) 65535 b)
+pub ticks_same : (h t : ℕ) → h ≤ t → (t - h) / 10000 ≤ 65535 → ticks_in (elapsed h t) ≡ record { 0 = (t - h) / 10000 }
+unfolding elapsed ticks_of
+ticks_same h t a b = rw (le-ltb t h a, le-leb ((t - h) / 10000) 65535 b)
 
 -- rule 3
-pub close-meter : (c : Limits) (l : Ledger) → SoundL c l → closedMeter (meterOf c l) ≡ meterOf c (close c l)
-unfolding closedMeter meterOf counted close filledIn hasRoom discardCount failureCount
-close-meter c l s = go (hasRoom c l) refl
+pub close_meter : (c : Limits) (l : Ledger) → SoundL c l → closed_meter (meter_of c l) ≡ meter_of c (close c l)
+unfolding closed_meter meter_of counted close filled_in has_room discard_count failure_count
+close_meter c l s = go (has_room c l) refl
   where
-    go : (b : Bool) → hasRoom c l ≡ b → closedMeter (meterOf c l) ≡ meterOf c (close c l)
+    go : (b : Bool) → has_room c l ≡ b → closed_meter (meter_of c l) ≡ meter_of c (close c l)
     go true e =
-        let d = rw e at (close-discards c l) in
-        let w = rw e at (close-waits c l s) in
-        rw e (meter-path refl refl refl refl refl refl (sym (or-false l.lost)) (omega arith) refl refl refl (omega arith))
+        let d = rw e at (close_discards c l) in
+        let w = rw e at (close_waits c l s) in
+        rw e (meter_path refl refl refl refl refl refl (sym (or_false l.lost)) (omega arith) refl refl refl (omega arith))
     go false e =
-        let d = rw e at (close-discards c l) in
-        let w = rw e at (close-waits c l s) in
-        rw e (meter-path refl refl refl refl refl refl (sym (or-true l.lost)) (omega arith) refl refl refl (omega arith))
+        let d = rw e at (close_discards c l) in
+        let w = rw e at (close_waits c l s) in
+        rw e (meter_path refl refl refl refl refl refl (sym (or_true l.lost)) (omega arith) refl refl refl (omega arith))
 
-pub filled_more : (xs : List Line) (x : Line) → filledIn (xs ++ (x ∷ [])) ≡ 14 + total xs + sizeIn x
-filled_more xs x = filled-open (xs ++ (x ∷ [])) (snoc-filled xs x) ∙ omega (arith, total-more xs x)
+pub filled_more : (xs : List Line) (x : Line) → filled_in (xs ++ (x ∷ [])) ≡ 14 + total xs + size_in x
+filled_more xs x = filled_open (xs ++ (x ∷ [])) (snoc_filled xs x) ∙ omega (arith, total_more xs x)
 
 -- the first item takes what it would take anywhere
-one-filled : (t : Time) (l : Ledger) (ev : Event) {n : ℕ} → n ≡ sizeIn (line_for l ev) → 14 + n ≡ filledIn (line_for (opened t l) ev ∷ [])
-unfolding filledIn line_for sizeIn itemIn stateIn
-one-filled t l ev e = omega arith
+one_filled : (t : Time) (l : Ledger) (ev : Event) {n : ℕ} → n ≡ size_in (line_for l ev) → 14 + n ≡ filled_in (line_for (opened t l) ev ∷ [])
+unfolding filled_in line_for size_in item_in state_in
+one_filled t l ev e = omega arith
 
 -- rule 1: an item in a frame just opened, and in one that stays open
-pub begin-meter : (c : Limits) (l : Ledger) (ev : Event) → ev.state < 128 → l.filling.lines ≡ []
-    → filledMeter (meterOf c l) ev.time (offerIn ev) (length ev.payload) ≡ meterOf c (enter ev (opened ev.time l))
-unfolding filledMeter itemSize placedMeter meterOf enter waitingIn discardCount failureCount
-begin-meter c l ev h e =
-    let z : eqb (filledIn l.filling.lines) 0 ≡ true = filled_zero l.filling.lines ∙ rw e in
-    let n = size_same l ev (offsetFor (meterOf c l) ev.time) h in
-    rw z (meter-path refl refl refl (one-filled ev.time l ev (omega arith)) refl refl refl refl refl refl refl refl)
+pub begin_meter : (c : Limits) (l : Ledger) (ev : Event) → ev.state < 128 → l.filling.lines ≡ []
+    → filled_meter (meter_of c l) ev.time (offer_in ev) (length ev.payload) ≡ meter_of c (enter ev (opened ev.time l))
+unfolding filled_meter item_size placed_meter meter_of enter waiting_in discard_count failure_count
+begin_meter c l ev h e =
+    let z : eqb (filled_in l.filling.lines) 0 ≡ true = filled_zero l.filling.lines ∙ rw e in
+    let n = size_same l ev (offset_for (meter_of c l) ev.time) h in
+    rw z (meter_path refl refl refl (one_filled ev.time l ev (omega arith)) refl refl refl refl refl refl refl refl)
 
-pub enter-meter : (c : Limits) (l : Ledger) (ev : Event) → ev.state < 128 → is_empty l.filling.lines ≡ false
-    → filledMeter (meterOf c l) ev.time (offerIn ev) (length ev.payload) ≡ meterOf c (enter ev l)
-unfolding filledMeter itemSize placedMeter meterOf enter waitingIn discardCount failureCount
-enter-meter c l ev h e =
-    let z : eqb (filledIn l.filling.lines) 0 ≡ false = filled_zero l.filling.lines ∙ e in
-    let n = size_same l ev (offsetFor (meterOf c l) ev.time) h in
-    let f = filled-open l.filling.lines e in
-    rw z (meter-path refl refl refl (sym (filled_more l.filling.lines (line_for l ev) ∙ omega arith)) refl refl refl refl refl refl refl refl)
+pub enter_meter : (c : Limits) (l : Ledger) (ev : Event) → ev.state < 128 → is_empty l.filling.lines ≡ false
+    → filled_meter (meter_of c l) ev.time (offer_in ev) (length ev.payload) ≡ meter_of c (enter ev l)
+unfolding filled_meter item_size placed_meter meter_of enter waiting_in discard_count failure_count
+enter_meter c l ev h e =
+    let z : eqb (filled_in l.filling.lines) 0 ≡ false = filled_zero l.filling.lines ∙ e in
+    let n = size_same l ev (offset_for (meter_of c l) ev.time) h in
+    let f = filled_open l.filling.lines e in
+    rw z (meter_path refl refl refl (sym (filled_more l.filling.lines (line_for l ev) ∙ omega arith)) refl refl refl refl refl refl refl refl)
 
 -- how far a clock is behind
-pub back-same : (c : Limits) (l : Ledger) (t : Time) → (backFor (meterOf c l) t).0 ≡ behind l t
-unfolding backFor meterOf behind
-back-same c l t = rw (filled_zero l.filling.lines) (go (is_empty l.filling.lines))
+pub back_same : (c : Limits) (l : Ledger) (t : Time) → (back_for (meter_of c l) t).0 ≡ behind l t
+unfolding back_for meter_of behind
+back_same c l t = rw (filled_zero l.filling.lines) (go (is_empty l.filling.lines))
   where
     go : (b : Bool) → (pick {A = Nanos} b (record { 0 = 0 }) (back_in (elapsed (ns l.filling.time) (ns t)))).0
         ≡ pick b 0 (min (ns l.filling.time - ns t) 4294967295)
@@ -183,24 +183,24 @@ back-same c l t = rw (filled_zero l.filling.lines) (go (is_empty l.filling.lines
     go false = back_by (ns l.filling.time) (ns t)
 
 -- rule 7
-pub take-meter : (c : Limits) (l : Ledger) (fs : List Frame) → waitingIn l ≡ fs → takenMeter (meterOf c l) ≡ meterOf c (taken l)
-unfolding takenMeter meterOf discardCount failureCount
-take-meter c l [] e = rw (taken_none l e, e)
-take-meter c l (f ∷ fs) e =
-    let n : length (waitingIn l) ≡ suc (length fs) = ap length e in
-    let z : eqb (length (waitingIn l)) 0 ≡ false = ne_eqb (length (waitingIn l)) 0 (λ q. let y : ⊥ = omega arith in y) in
-    let d : length (waitingIn (tookOne l)) ≡ length fs = ap length (took-waiting l f fs e) in
-    rw (taken-one l f fs e, z) (meter-path refl refl refl refl refl refl refl refl refl refl (omega arith) (omega arith))
+pub take_meter : (c : Limits) (l : Ledger) (fs : List Frame) → waiting_in l ≡ fs → taken_meter (meter_of c l) ≡ meter_of c (taken l)
+unfolding taken_meter meter_of discard_count failure_count
+take_meter c l [] e = rw (taken_none l e, e)
+take_meter c l (f ∷ fs) e =
+    let n : length (waiting_in l) ≡ suc (length fs) = ap length e in
+    let z : eqb (length (waiting_in l)) 0 ≡ false = ne_eqb (length (waiting_in l)) 0 (λ q. let y : ⊥ = omega arith in y) in
+    let d : length (waiting_in (took_one l)) ≡ length fs = ap length (took_waiting l f fs e) in
+    rw (taken_one l f fs e, z) (meter_path refl refl refl refl refl refl refl refl refl refl (omega arith) (omega arith))
 
 -- rule 8
-pub fail-meter-none : (c : Limits) (l : Ledger) → isOut l.sends ≡ false → failedMeter (meterOf c l) ≡ meterOf c l
-unfolding meterOf
-fail-meter-none c l e = sym (fail-none (meterOf c l) e)
+pub fail_meter_none : (c : Limits) (l : Ledger) → is_out l.sends ≡ false → failed_meter (meter_of c l) ≡ meter_of c l
+unfolding meter_of
+fail_meter_none c l e = sym (fail_none (meter_of c l) e)
 
-pub fail-meter : (c : Limits) (l : Ledger) (bs : List Bool) → l.sends ≡ false ∷ bs → failedMeter (meterOf c l) ≡ meterOf c (failedOne bs l)
-unfolding meterOf counted failureCount discardCount waitingIn
-fail-meter c l bs e =
+pub fail_meter : (c : Limits) (l : Ledger) (bs : List Bool) → l.sends ≡ false ∷ bs → failed_meter (meter_of c l) ≡ meter_of c (failed_one bs l)
+unfolding meter_of counted failure_count discard_count waiting_in
+fail_meter c l bs e =
     let n : length l.sends ≡ suc (length bs) = ap length e in
-    let k : failuresIn l.sends ≡ failuresIn bs = ap failuresIn e in
-    sym (fail-out (meterOf c l) (counted (failureCount l)) (ap isOut e) refl)
-    ∙ meter-path refl refl refl refl refl refl refl refl refl (omega arith) (omega arith) (ap (λ (i : ℕ). length (drop i (keptIn l.closed))) n)
+    let k : failures_in l.sends ≡ failures_in bs = ap failures_in e in
+    sym (fail_out (meter_of c l) (counted (failure_count l)) (ap is_out e) refl)
+    ∙ meter_path refl refl refl refl refl refl refl refl refl (omega arith) (omega arith) (ap (λ (i : ℕ). length (drop i (kept_in l.closed))) n)

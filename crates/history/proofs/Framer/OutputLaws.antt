@@ -8,24 +8,24 @@ use lib.ListN.{length, take, drop}
 use lib.Seq.{take_at}
 use lib.Dec.{ltb, eqb}
 use borrow.Author.Tests.{eqb-false}
-use Rattle.framer.specs.Meter.{soundMeter}
+use Rattle.framer.specs.Meter.{sound_meter}
 use Rattle.framer.specs.Queue.{length_at, frame_at}
 use Rattle.framer.specs.Framer.{take_of, out_of}
 use Rattle.framer.specs.declared.framer.Framer.{Framer}
-use Rattle.mirror.specs.Engine.{soundOf}
-use Rattle.mirror.specs.Take.{taken_of, outputOf}
+use Rattle.mirror.specs.Engine.{sound_of}
+use Rattle.mirror.specs.Take.{taken_of, output_of}
 use Rattle.mirror.specs.Call.{Call, step_of}
 use Rattle.mirror.specs.Call as Call
 use Rattle.mirror.specs.declared.engine.Engine.{Engine}
 use Rattle.history.specs.Meaning.{takes}
-use Rattle.history.specs.Ledger.{Limits, Frame, Ledger, waitingIn}
+use Rattle.history.specs.Ledger.{Limits, Frame, Ledger, waiting_in}
 use Rattle.history.specs.Ledger as Rules
-use Rattle.history.specs.History.{frameOut}
+use Rattle.history.specs.History.{frame_out}
 use Rattle.history.proofs.Ground.Machine.{laid, step_w}
 use Rattle.history.proofs.Ground.TestLaws.{wrong}
-use Rattle.history.proofs.Framer.SlotLaws.{frame-length}
-use Rattle.history.proofs.Framer.MeterLaws.{meterOf}
-use Rattle.history.proofs.Framer.SimLaws.{Tied, slots-are}
+use Rattle.history.proofs.Framer.SlotLaws.{frame_length}
+use Rattle.history.proofs.Framer.MeterLaws.{meter_of}
+use Rattle.history.proofs.Framer.SimLaws.{Tied, slots_are}
 
 -- what a framer's take that is answered 0 does
 pub record Takes (w : Framer) (n : ℕ) : Type 0 where
@@ -35,9 +35,9 @@ pub record Takes (w : Framer) (n : ℕ) : Type 0 where
 
 pub taking : (w : Framer) (n : ℕ) → (take_of w n).answer ≡ 0 → Takes w n
 unfolding take_of
-taking w n z = go (soundMeter w.meter) (eqb w.meter.waiting 0) (ltb n (length_at w.queue w.meter.first)) refl refl refl
+taking w n z = go (sound_meter w.meter) (eqb w.meter.waiting 0) (ltb n (length_at w.queue w.meter.first)) refl refl refl
   where
-    go : (a b d : Bool) → soundMeter w.meter ≡ a → eqb w.meter.waiting 0 ≡ b → ltb n (length_at w.queue w.meter.first) ≡ d → Takes w n
+    go : (a b d : Bool) → sound_meter w.meter ≡ a → eqb w.meter.waiting 0 ≡ b → ltb n (length_at w.queue w.meter.first) ≡ d → Takes w n
     go false b d p q r = wrong 18 (rw p at z)
     go true true d p q r = wrong 12 (rw (p, q) at z)
     go true false true p q r = wrong 11 (rw (p, q, r) at z)
@@ -45,23 +45,23 @@ taking w n z = go (soundMeter w.meter) (eqb w.meter.waiting 0) (ltb n (length_at
 
 -- the slot of the oldest waiting frame
 module _ (c : Limits) (w : Framer) (l : Ledger) (t : Tied c w l) where
-  oldest : (fs : List Frame) → waitingIn l ≡ fs → (w.meter.waiting ≡ 0 → ⊥) → frame_at w.queue w.meter.first ∷ [] ≡ map laid (take 1 fs)
-  unfolding meterOf
+  oldest : (fs : List Frame) → waiting_in l ≡ fs → (w.meter.waiting ≡ 0 → ⊥) → frame_at w.queue w.meter.first ∷ [] ≡ map laid (take 1 fs)
+  unfolding meter_of
   oldest [] e n = absurd (n (rw t.tie.meter (ap length e)))
-  oldest (f ∷ fs) e n = rw t.tie.meter (ap (take 1) (slots-are c w l t.tie (f ∷ fs) e))
+  oldest (f ∷ fs) e n = rw t.tie.meter (ap (take 1) (slots_are c w l t.tie (f ∷ fs) e))
 
   pub first_small : w.meter.first ≤ 7
-  unfolding meterOf
+  unfolding meter_of
   first_small = rw t.tie.meter (omega arith)
 
-pub take_out : (c : Limits) (e : Engine) (l : Ledger) (out : List ℕ) → Tied c e.framer l → soundOf e ≡ true → (step_of e (Call.take out)).said.answer ≡ 0
-    → frameOut takes (step_of e (Call.take out)).said ≡ map laid (take 1 (waitingIn l))
-unfolding taken_of outputOf out_of
+pub take_out : (c : Limits) (e : Engine) (l : Ledger) (out : List ℕ) → Tied c e.framer l → sound_of e ≡ true → (step_of e (Call.take out)).said.answer ≡ 0
+    → frame_out takes (step_of e (Call.take out)).said ≡ map laid (take 1 (waiting_in l))
+unfolding taken_of output_of out_of
 take_out c e l out t s z =
     let w : Framer = e.framer in
     let y : (take_of w (length out)).answer ≡ 0 = rw s at z in
     let k = taking w (length out) y in
     let bs : List ℕ = frame_at w.queue w.meter.first in
-    let n : length bs ≡ length_at w.queue w.meter.first = frame-length w.queue w.meter.first t.tie.store (first_small c w l t) in
+    let n : length bs ≡ length_at w.queue w.meter.first = frame_length w.queue w.meter.first t.tie.store (first_small c w l t) in
     rw (s, y, k.number)
-    (ap (λ (x : List ℕ). x ∷ []) (take_at bs (drop (0 + length bs) out) (length_at w.queue w.meter.first) n) ∙ oldest c w l t (waitingIn l) refl k.waits)
+    (ap (λ (x : List ℕ). x ∷ []) (take_at bs (drop (0 + length bs) out) (length_at w.queue w.meter.first) n) ∙ oldest c w l t (waiting_in l) refl k.waits)

@@ -17,19 +17,19 @@ pub and_yes : (a b : Bool) → not a && b ≡ true → (a ≡ false) × (b ≡ t
 and_yes true b e = absurd (false≢true e)
 and_yes false b e = (refl, e)
 
-pub and3-yes : (a b d : Bool) → a && b && d ≡ true → (a ≡ true) × (b ≡ true) × (d ≡ true)
-and3-yes a b d e = let h = and_l (a && b) d e in (and_l a b h, and_r a b h, and_r (a && b) d e)
+pub and3_yes : (a b d : Bool) → a && b && d ≡ true → (a ≡ true) × (b ≡ true) × (d ≡ true)
+and3_yes a b d e = let h = and_l (a && b) d e in (and_l a b h, and_r a b h, and_r (a && b) d e)
 
 -- none of them does, or one
-pub or3-no : (a b d : Bool) → a || b || d ≡ false → (a ≡ false) × (b ≡ false) × (d ≡ false)
-or3-no true b d e = absurd (true≢false e)
-or3-no false true d e = absurd (true≢false e)
-or3-no false false d e = (refl, refl, e)
+pub or3_no : (a b d : Bool) → a || b || d ≡ false → (a ≡ false) × (b ≡ false) × (d ≡ false)
+or3_no true b d e = absurd (true≢false e)
+or3_no false true d e = absurd (true≢false e)
+or3_no false false d e = (refl, refl, e)
 
-pub or3-yes : {X Y Z : Type 0} (a b d : Bool) → (a ≡ true → X) → (b ≡ true → Y) → (d ≡ true → Z) → a || b || d ≡ true → X ⊎ (Y ⊎ Z)
-or3-yes true b d x y z e = inl (x refl)
-or3-yes false true d x y z e = inr (inl (y refl))
-or3-yes false false d x y z e = inr (inr (z e))
+pub or3_yes : {X Y Z : Type 0} (a b d : Bool) → (a ≡ true → X) → (b ≡ true → Y) → (d ≡ true → Z) → a || b || d ≡ true → X ⊎ (Y ⊎ Z)
+or3_yes true b d x y z e = inl (x refl)
+or3_yes false true d x y z e = inr (inl (y refl))
+or3_yes false false d x y z e = inr (inr (z e))
 
 -- a test and its opposite
 pub not-leb : (a b : ℕ) → not (leb a b) ≡ ltb b a

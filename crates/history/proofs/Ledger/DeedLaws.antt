@@ -4,24 +4,24 @@ use mathlib.Core.Bool.{Bool, true, false}
 use mathlib.Core.List.{List, [], ◌∷◌, ◌++◌, map, append-nil}
 use Rattle.codec.specs.Choice.{pick}
 use Rattle.history.specs.Meaning.{Meaning, starts, stops, updates, reports, ticks, takes, fails, switches, drops, nothing, meaning}
-use Rattle.history.specs.Account.{Account, Event, eventsOf}
+use Rattle.history.specs.Account.{Account, Event, events_of}
 use Rattle.history.specs.Ledger.{Op}
 use Rattle.history.specs.Ledger as Rules
-use Rattle.history.specs.Deed.{Deed, done, besides, ops_of, accountsBy, eventsOn, opsOn}
-use Rattle.history.proofs.Ledger.Moves.{eventsIn}
+use Rattle.history.specs.Deed.{Deed, done, besides, ops_of, accounts_by, events_on, ops_on}
+use Rattle.history.proofs.Ledger.Moves.{events_in}
 
-eventsIn-append : (a b : List Op) → eventsIn (a ++ b) ≡ eventsIn a ++ eventsIn b
-eventsIn-append [] b = refl
-eventsIn-append (Rules.event ev ∷ a) b = rw (eventsIn-append a b)
-eventsIn-append (Rules.deadline t ∷ a) b = eventsIn-append a b
-eventsIn-append (Rules.take ∷ a) b = eventsIn-append a b
-eventsIn-append (Rules.fail ∷ a) b = eventsIn-append a b
+events_in_append : (a b : List Op) → events_in (a ++ b) ≡ events_in a ++ events_in b
+events_in_append [] b = refl
+events_in_append (Rules.event ev ∷ a) b = rw (events_in_append a b)
+events_in_append (Rules.deadline t ∷ a) b = events_in_append a b
+events_in_append (Rules.take ∷ a) b = events_in_append a b
+events_in_append (Rules.fail ∷ a) b = events_in_append a b
 
-events-only : (evs : List Event) → eventsIn (map Rules.event evs) ≡ evs
-events-only [] = refl
-events-only (ev ∷ evs) = rw (events-only evs)
+events_only : (evs : List Event) → events_in (map Rules.event evs) ≡ evs
+events_only [] = refl
+events_only (ev ∷ evs) = rw (events_only evs)
 
-none-besides : (m : Meaning) → eventsIn (besides m) ≡ []
+none-besides : (m : Meaning) → events_in (besides m) ≡ []
 none-besides (starts source) = refl
 none-besides (stops source) = refl
 none-besides (updates source byte) = refl
@@ -33,17 +33,17 @@ none-besides (switches size room deadline) = refl
 none-besides drops = refl
 none-besides nothing = refl
 
-events-of : (book : List Account) (m : Meaning) → eventsIn (ops_of book m) ≡ eventsOf book m
+events-of : (book : List Account) (m : Meaning) → events_in (ops_of book m) ≡ events_of book m
 unfolding ops_of
 events-of book m =
-    eventsIn-append (map Rules.event (eventsOf book m)) (besides m) ∙ rw (events-only (eventsOf book m), none-besides m) (append-nil (eventsOf book m))
+    events_in_append (map Rules.event (events_of book m)) (besides m) ∙ rw (events_only (events_of book m), none-besides m) (append-nil (events_of book m))
 
-events-by : (b : Bool) (book : List Account) (m : Meaning) → eventsIn (pick b (ops_of book m) []) ≡ pick b (eventsOf book m) []
-events-by true book m = events-of book m
-events-by false book m = refl
+events_by : (b : Bool) (book : List Account) (m : Meaning) → events_in (pick b (ops_of book m) []) ≡ pick b (events_of book m) []
+events_by true book m = events-of book m
+events_by false book m = refl
 
-pub events-in : (book : List Account) (ds : List Deed) → eventsIn (opsOn book ds) ≡ eventsOn book ds
+pub events-in : (book : List Account) (ds : List Deed) → events_in (ops_on book ds) ≡ events_on book ds
 events-in book [] = refl
 events-in book (d ∷ ds) =
-    eventsIn-append (pick (done d) (ops_of book (meaning d.call)) []) (opsOn (accountsBy book d) ds)
-    ∙ rw (events-by (done d) book (meaning d.call), events-in (accountsBy book d) ds)
+    events_in_append (pick (done d) (ops_of book (meaning d.call)) []) (ops_on (accounts_by book d) ds)
+    ∙ rw (events_by (done d) book (meaning d.call), events-in (accounts_by book d) ds)

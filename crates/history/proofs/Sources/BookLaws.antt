@@ -11,44 +11,44 @@ use borrow.Author.Tests.{eqb-true, eqb-false, lt-ltb}
 use Rattle.codec.specs.declared.ident.Kind.TheVariants as Kind
 use Rattle.framer.specs.declared.framer.Framer.{Framer}
 use Rattle.bus.specs.declared.source.Source.{Source}
-use Rattle.mirror.specs.Engine.{noSource, soundOf, causeOf, answered, index_of, sourceAt, withSource}
+use Rattle.mirror.specs.Engine.{no_source, sound_of, cause_of, answered, index_of, source_at, with_source}
 use Rattle.mirror.specs.declared.engine.Engine.{Engine}
 use Rattle.mirror.proofs.MirrorLaws.{few}
-use Rattle.history.specs.Account.{Account, freshAccount, accountAt, changed}
+use Rattle.history.specs.Account.{Account, fresh_account, account_at, changed}
 use Rattle.history.specs.History.{All}
 use Rattle.history.proofs.Ground.TestLaws.{wrong}
-use Rattle.history.proofs.Ground.ListLaws.{all-get, all_take, map-set}
-use Rattle.history.proofs.Sources.SourceLaws.{accountOf, HealthyS, HealthyA}
+use Rattle.history.proofs.Ground.ListLaws.{all_get, all_take, map-set}
+use Rattle.history.proofs.Sources.SourceLaws.{account_of, HealthyS, HealthyA}
 
 -- the accounts of the sources that there are
-unfoldable pub bookOf : Engine → List Account
-bookOf e = map accountOf (take e.count e.sources)
+unfoldable pub book_of : Engine → List Account
+book_of e = map account_of (take e.count e.sources)
 
 -- what setup establishes and every call keeps
 pub record Steady (e : Engine) : Type 0 where
-  pub sound : soundOf e ≡ true
+  pub sound : sound_of e ≡ true
   pub some : 1 ≤ e.count
   pub eight : length e.sources ≡ 8
   pub healthy : All HealthyS e.sources
 
 -- an answer of 0: no cause stands against the call, and what it was to do is done
-pub accepted : (e after : Engine) (cause : ℕ) → (answered e (causeOf e cause) after).answer ≡ 0
-    → (cause ≡ 0) × ((answered e (causeOf e cause) after).engine ≡ after)
-unfolding answered causeOf
-accepted e after cause z = go (soundOf e) (eqb cause 0) refl refl
+pub accepted : (e after : Engine) (cause : ℕ) → (answered e (cause_of e cause) after).answer ≡ 0
+    → (cause ≡ 0) × ((answered e (cause_of e cause) after).engine ≡ after)
+unfolding answered cause_of
+accepted e after cause z = go (sound_of e) (eqb cause 0) refl refl
   where
-    go : (a b : Bool) → soundOf e ≡ a → eqb cause 0 ≡ b → (cause ≡ 0) × ((answered e (causeOf e cause) after).engine ≡ after)
+    go : (a b : Bool) → sound_of e ≡ a → eqb cause 0 ≡ b → (cause ≡ 0) × ((answered e (cause_of e cause) after).engine ≡ after)
     go false b p q = wrong 18 (rw p at z)
     go true true p q = (eqb-true cause 0 q, rw (p, q))
     go true false p q = let y : cause ≡ 0 = rw (p, q) at z in absurd (eqb-false cause 0 q y)
 
 -- where there is no source
-no-account : accountOf noSource ≡ freshAccount Kind.Can 0
-unfolding accountOf freshAccount
-no-account = refl
+no_account : account_of no_source ≡ fresh_account Kind.Can 0
+unfolding account_of fresh_account
+no_account = refl
 
-pub no-healthy : HealthyS noSource
-no-healthy = record { network = omega arith; state = omega arith; shown = refl; bound = refl }
+pub no_healthy : HealthyS no_source
+no_healthy = record { network = omega arith; state = omega arith; shown = refl; bound = refl }
 
 -- a source with a number below the count, its account, and the book with it changed
 module _ (e : Engine) (s : Steady e) where
@@ -56,32 +56,32 @@ module _ (e : Engine) (s : Steady e) where
   unfolding index_of
   index_is k h = rw (lt-ltb k 8 (omega (arith, few e s.sound)))
 
-  pub healthy-at : (k : ℕ) → HealthyS (sourceAt e k)
-  unfolding sourceAt
-  healthy-at k = all-get HealthyS e.sources (index_of k) noSource no-healthy s.healthy
+  pub healthy_at : (k : ℕ) → HealthyS (source_at e k)
+  unfolding source_at
+  healthy_at k = all_get HealthyS e.sources (index_of k) no_source no_healthy s.healthy
 
-  pub account-at : (k : ℕ) → k < e.count → accountAt (bookOf e) k ≡ accountOf (sourceAt e k)
-  unfolding accountAt bookOf sourceAt
+  pub account-at : (k : ℕ) → k < e.count → account_at (book_of e) k ≡ account_of (source_at e k)
+  unfolding account_at book_of source_at
   account-at k h =
-      rw (index_is k h, ← no-account) (get_or-map accountOf (take e.count e.sources) k noSource ∙ ap accountOf (get_or-take e.count e.sources k noSource h))
+      rw (index_is k h, ← no_account) (get_or-map account_of (take e.count e.sources) k no_source ∙ ap account_of (get_or-take e.count e.sources k no_source h))
 
-  pub changed-book : (k : ℕ) (x : Source) (w : Framer) (f : Account → Account) → k < e.count → accountOf x ≡ f (accountOf (sourceAt e k))
-      → bookOf (withSource e k x w) ≡ changed (bookOf e) k f
-  unfolding bookOf withSource changed
-  changed-book k x w f h a =
-      rw (index_is k h, account-at k h, ← a, take-set-lt e.count e.sources k x h) (map-set accountOf (take e.count e.sources) k x)
+  pub changed_book : (k : ℕ) (x : Source) (w : Framer) (f : Account → Account) → k < e.count → account_of x ≡ f (account_of (source_at e k))
+      → book_of (with_source e k x w) ≡ changed (book_of e) k f
+  unfolding book_of with_source changed
+  changed_book k x w f h a =
+      rw (index_is k h, account-at k h, ← a, take-set-lt e.count e.sources k x h) (map-set account_of (take e.count e.sources) k x)
 
 -- a change that is none
-pub same-book : (book : List Account) (k : ℕ) → changed book k (λ a. a) ≡ book
-unfolding changed accountAt
-same-book book k = set-get_or book k (freshAccount Kind.Can 0)
+pub same_book : (book : List Account) (k : ℕ) → changed book k (λ a. a) ≡ book
+unfolding changed account_at
+same_book book k = set-get_or book k (fresh_account Kind.Can 0)
 
 -- healthy sources have healthy accounts
-healthy-accounts : (xs : List Source) → All HealthyS xs → All HealthyA (map accountOf xs)
-unfolding accountOf
-healthy-accounts [] p = tt
-healthy-accounts (x ∷ xs) p = (p.0, healthy-accounts xs p.1)
+healthy_accounts : (xs : List Source) → All HealthyS xs → All HealthyA (map account_of xs)
+unfolding account_of
+healthy_accounts [] p = tt
+healthy_accounts (x ∷ xs) p = (p.0, healthy_accounts xs p.1)
 
-pub healthy-book : (e : Engine) → Steady e → All HealthyA (bookOf e)
-unfolding bookOf
-healthy-book e s = healthy-accounts (take e.count e.sources) (all_take HealthyS e.count e.sources s.healthy)
+pub healthy_book : (e : Engine) → Steady e → All HealthyA (book_of e)
+unfolding book_of
+healthy_book e s = healthy_accounts (take e.count e.sources) (all_take HealthyS e.count e.sources s.healthy)

@@ -2,7 +2,7 @@
 use Prim.Native.Nat.{ℕ, suc, ◌+◌, ◌/◌, ◌%◌, ◌≤◌}
 use mathlib.Core.Path.{◌≡◌, refl, sym, ap, ◌∙◌}
 use mathlib.Core.Bool.{true, not, ◌&&◌}
-use mathlib.Core.List.{List, [], ◌∷◌, ◌++◌, map, map-append, append-nil}
+use mathlib.Core.List.{List, [], ◌∷◌, ◌++◌, map, map_append, append-nil}
 use native.Mathlib.Omega.{arith}
 use lib.ListN.{length, take, set, length-set}
 use lib.Seq.{take-suc-set, append_snoc}
@@ -12,114 +12,114 @@ use Rattle.codec.specs.Choice.{bit}
 use Rattle.codec.specs.declared.ident.Kind.TheVariants as Kind
 use Rattle.codec.proofs.Opened.{never}
 use Rattle.codec.proofs.Opened as Opened
-use Rattle.framer.specs.Meter.{limitsOk}
-use Rattle.framer.specs.Framer.{emptyFramer}
-use Rattle.framer.proofs.KeptLaws.{kept-empty}
-use Rattle.bus.specs.Source.{freshSource}
+use Rattle.framer.specs.Meter.{limits_ok}
+use Rattle.framer.specs.Framer.{empty_framer}
+use Rattle.framer.proofs.KeptLaws.{kept_empty}
+use Rattle.bus.specs.Source.{fresh_source}
 use Rattle.bus.specs.declared.source.Source.{Source}
-use Rattle.mirror.specs.Engine.{noSources}
-use Rattle.mirror.specs.Setup.{kindNumbered, sourceNumbered, pairOk, namedAgain, pairsOk, sourcesOk, named, setupOf}
+use Rattle.mirror.specs.Engine.{no_sources}
+use Rattle.mirror.specs.Setup.{kind_numbered, source_numbered, pair_ok, named_again, pairs_ok, sources_ok, named, setup_of}
 use Rattle.mirror.specs.Call.{Call, step_of}
 use Rattle.mirror.specs.Call as Call
 use Rattle.mirror.specs.declared.engine.Engine.{Engine}
-use Rattle.mirror.proofs.Kept.{sound-by}
-use Rattle.history.specs.Account.{freshAccount, kindNamed, accountsFor}
+use Rattle.mirror.proofs.Kept.{sound_by}
+use Rattle.history.specs.Account.{fresh_account, kind_named, accounts_for}
 use Rattle.history.specs.History.{All}
-use Rattle.history.proofs.Ground.TestLaws.{wrong, and3-yes}
+use Rattle.history.proofs.Ground.TestLaws.{wrong, and3_yes}
 use Rattle.history.proofs.Ground.ListLaws.{all_set, all_replicate}
-use Rattle.history.proofs.Sources.SourceLaws.{accountOf, HealthyS, fresh-account, fresh-healthy}
-use Rattle.history.proofs.Sources.BookLaws.{bookOf, Steady, accepted}
+use Rattle.history.proofs.Sources.SourceLaws.{account_of, HealthyS, fresh-account, fresh_healthy}
+use Rattle.history.proofs.Sources.BookLaws.{book_of, Steady, accepted}
 
 -- the sources named by the list of kinds and ids
 named-length : (k : ℕ) (pairs : List ℕ) (ss : List Source) → length (named k pairs ss) ≡ length ss
 named-length k [] ss = refl
 named-length k (kind ∷ []) ss = refl
-named-length k (kind ∷ (id ∷ rest)) ss = named-length (suc k) rest (set ss k (sourceNumbered kind id)) ∙ length-set ss k (sourceNumbered kind id)
+named-length k (kind ∷ (id ∷ rest)) ss = named-length (suc k) rest (set ss k (source_numbered kind id)) ∙ length-set ss k (source_numbered kind id)
 
-numbered-healthy : (kind id : ℕ) → HealthyS (sourceNumbered kind id)
-unfolding sourceNumbered
-numbered-healthy kind id = fresh-healthy (kindNumbered kind) (id % 256) (omega arith)
+numbered_healthy : (kind id : ℕ) → HealthyS (source_numbered kind id)
+unfolding source_numbered
+numbered_healthy kind id = fresh_healthy (kind_numbered kind) (id % 256) (omega arith)
 
-named-healthy : (k : ℕ) (pairs : List ℕ) (ss : List Source) → All HealthyS ss → All HealthyS (named k pairs ss)
-named-healthy k [] ss p = p
-named-healthy k (kind ∷ []) ss p = p
-named-healthy k (kind ∷ (id ∷ rest)) ss p = named-healthy (suc k) rest _ (all_set HealthyS ss k (sourceNumbered kind id) (numbered-healthy kind id) p)
+named_healthy : (k : ℕ) (pairs : List ℕ) (ss : List Source) → All HealthyS ss → All HealthyS (named k pairs ss)
+named_healthy k [] ss p = p
+named_healthy k (kind ∷ []) ss p = p
+named_healthy k (kind ∷ (id ∷ rest)) ss p = named_healthy (suc k) rest _ (all_set HealthyS ss k (source_numbered kind id) (numbered_healthy kind id) p)
 
-numbered-account : (kind id : ℕ) → pairOk kind id ≡ true → accountOf (sourceNumbered kind id) ≡ freshAccount (kindNamed kind) id
-unfolding sourceNumbered kindNumbered kindNamed pairOk
-numbered-account kind id e =
-    let h : id ≤ 255 = leb-true id 255 (and3-yes (leb 1 kind) (leb kind 3) (leb id 255) e).2 in
+numbered_account : (kind id : ℕ) → pair_ok kind id ≡ true → account_of (source_numbered kind id) ≡ fresh_account (kind_named kind) id
+unfolding source_numbered kind_numbered kind_named pair_ok
+numbered_account kind id e =
+    let h : id ≤ 255 = leb-true id 255 (and3_yes (leb 1 kind) (leb kind 3) (leb id 255) e).2 in
     let x : id % 256 ≡ id = omega arith in
-    rw x (fresh-account (kindNamed kind) id)
+    rw x (fresh-account (kind_named kind) id)
 
-named-book : (k : ℕ) (pairs : List ℕ) (ss : List Source) → pairsOk pairs ≡ true → k + length pairs / 2 ≤ length ss
-    → map accountOf (take (k + length pairs / 2) (named k pairs ss)) ≡ map accountOf (take k ss) ++ accountsFor pairs
-named-book k [] ss e h = let x : k + 0 / 2 ≡ k = omega arith in rw x (sym (append-nil (map accountOf (take k ss))))
-named-book k (kind ∷ []) ss e h = never (ap bit e)
-named-book k (kind ∷ (id ∷ rest)) ss e h =
-    let a = and3-yes (pairOk kind id) (not (namedAgain kind id rest)) (pairsOk rest) e in
-    let y : Source = sourceNumbered kind id in
+named_book : (k : ℕ) (pairs : List ℕ) (ss : List Source) → pairs_ok pairs ≡ true → k + length pairs / 2 ≤ length ss
+    → map account_of (take (k + length pairs / 2) (named k pairs ss)) ≡ map account_of (take k ss) ++ accounts_for pairs
+named_book k [] ss e h = let x : k + 0 / 2 ≡ k = omega arith in rw x (sym (append-nil (map account_of (take k ss))))
+named_book k (kind ∷ []) ss e h = never (ap bit e)
+named_book k (kind ∷ (id ∷ rest)) ss e h =
+    let a = and3_yes (pair_ok kind id) (not (named_again kind id rest)) (pairs_ok rest) e in
+    let y : Source = source_numbered kind id in
     let m : k + suc (suc (length rest)) / 2 ≡ suc k + length rest / 2 = omega arith in
-    let ih = named-book (suc k) rest (set ss k y) a.2 (rw (length-set ss k y) (omega arith)) in
+    let ih = named_book (suc k) rest (set ss k y) a.2 (rw (length-set ss k y) (omega arith)) in
     rw m (ih
-    ∙ rw (take-suc-set ss k y (omega arith), map-append accountOf (take k ss) (y ∷ []), numbered-account kind id a.0)
-    (append_snoc (map accountOf (take k ss)) (freshAccount (kindNamed kind) id) (accountsFor rest)))
+    ∙ rw (take-suc-set ss k y (omega arith), map_append account_of (take k ss) (y ∷ []), numbered_account kind id a.0)
+    (append_snoc (map account_of (take k ss)) (fresh_account (kind_named kind) id) (accounts_for rest)))
 
 -- the sources before setup
-none-healthy : All HealthyS noSources
-unfolding noSources
-none-healthy = all_replicate HealthyS 8 (freshSource Kind.Can 0) (fresh-healthy Kind.Can 0 (omega arith))
+none_healthy : All HealthyS no_sources
+unfolding no_sources
+none_healthy = all_replicate HealthyS 8 (fresh_source Kind.Can 0) (fresh_healthy Kind.Can 0 (omega arith))
 
-none-eight : length noSources ≡ 8
-unfolding noSources
-none-eight = refl
+none_eight : length no_sources ≡ 8
+unfolding no_sources
+none_eight = refl
 
-abbrev setEngine : ℕ → ℕ → ℕ → List ℕ → Engine
-setEngine size room deadline pairs =
-    record { count = length pairs / 2; sources = named 0 pairs noSources; framer = emptyFramer size room (record { 0 = deadline }) }
+abbrev set_engine : ℕ → ℕ → ℕ → List ℕ → Engine
+set_engine size room deadline pairs =
+    record { count = length pairs / 2; sources = named 0 pairs no_sources; framer = empty_framer size room (record { 0 = deadline }) }
 
 module _ (e : Engine) (size room deadline : ℕ) (pairs : List ℕ) (z : (step_of e (Call.setup size room deadline pairs)).said.answer ≡ 0) where
   -- no cause stands against it
-  setup-tests : (eqb e.count 0 ≡ true) × (limitsOk size room deadline ≡ true) × (sourcesOk pairs ≡ true)
-  unfolding setupOf
-  setup-tests =
-      let y = (accepted e (setEngine size room deadline pairs) _ z).0 in
-      Opened.chosen (eqb e.count 0 && limitsOk size room deadline && sourcesOk pairs) 0 14 y (wrong 13) (λ q x. and3-yes _ _ _ q)
+  setup_tests : (eqb e.count 0 ≡ true) × (limits_ok size room deadline ≡ true) × (sources_ok pairs ≡ true)
+  unfolding setup_of
+  setup_tests =
+      let y = (accepted e (set_engine size room deadline pairs) _ z).0 in
+      Opened.chosen (eqb e.count 0 && limits_ok size room deadline && sources_ok pairs) 0 14 y (wrong 13) (λ q x. and3_yes _ _ _ q)
 
-  pub setup-empty : e.count ≡ 0
-  setup-empty = eqb-true e.count 0 setup-tests.0
+  pub setup_empty : e.count ≡ 0
+  setup_empty = eqb-true e.count 0 setup_tests.0
 
-  pub setup-limits : limitsOk size room deadline ≡ true
-  setup-limits = setup-tests.1
+  pub setup_limits : limits_ok size room deadline ≡ true
+  setup_limits = setup_tests.1
 
-  setup-pairs : (length pairs ≤ 16) × (2 ≤ length pairs) × (pairsOk pairs ≡ true)
-  unfolding sourcesOk
-  setup-pairs =
-      let p = and3-yes (leb (length pairs) 16) (leb 2 (length pairs)) (pairsOk pairs) setup-tests.2 in
+  setup_pairs : (length pairs ≤ 16) × (2 ≤ length pairs) × (pairs_ok pairs ≡ true)
+  unfolding sources_ok
+  setup_pairs =
+      let p = and3_yes (leb (length pairs) 16) (leb 2 (length pairs)) (pairs_ok pairs) setup_tests.2 in
       (leb-true (length pairs) 16 p.0, leb-true 2 (length pairs) p.1, p.2)
 
-  setup-engine : (step_of e (Call.setup size room deadline pairs)).engine ≡ setEngine size room deadline pairs
-  unfolding setupOf
-  setup-engine = (accepted e (setEngine size room deadline pairs) _ z).1
+  setup_engine : (step_of e (Call.setup size room deadline pairs)).engine ≡ set_engine size room deadline pairs
+  unfolding setup_of
+  setup_engine = (accepted e (set_engine size room deadline pairs) _ z).1
 
-  pub setup-framer : (step_of e (Call.setup size room deadline pairs)).engine.framer ≡ emptyFramer size room (record { 0 = deadline })
-  setup-framer = ap (λ (x : Engine). x.framer) setup-engine
+  pub setup_framer : (step_of e (Call.setup size room deadline pairs)).engine.framer ≡ empty_framer size room (record { 0 = deadline })
+  setup_framer = ap (λ (x : Engine). x.framer) setup_engine
 
-  pub setup-book : bookOf (step_of e (Call.setup size room deadline pairs)).engine ≡ accountsFor pairs
-  unfolding bookOf
-  setup-book =
-      let h = setup-pairs.0 in
+  pub setup_book : book_of (step_of e (Call.setup size room deadline pairs)).engine ≡ accounts_for pairs
+  unfolding book_of
+  setup_book =
+      let h = setup_pairs.0 in
       let x : 0 + length pairs / 2 ≡ length pairs / 2 = omega arith in
-      ap bookOf setup-engine ∙ rw x at (named-book 0 pairs noSources setup-pairs.2 (rw none-eight (omega arith)))
+      ap book_of setup_engine ∙ rw x at (named_book 0 pairs no_sources setup_pairs.2 (rw none_eight (omega arith)))
 
-  pub setup-steady : Steady (step_of e (Call.setup size room deadline pairs)).engine
-  unfolding emptyFramer
-  setup-steady =
-      let h = setup-pairs in
-      rw setup-engine (record {
-        sound = sound-by (length pairs / 2) (named 0 pairs noSources) (emptyFramer size room (record { 0 = deadline })) (omega arith)
-            (kept-empty size room (record { 0 = deadline }) setup-limits);
+  pub setup_steady : Steady (step_of e (Call.setup size room deadline pairs)).engine
+  unfolding empty_framer
+  setup_steady =
+      let h = setup_pairs in
+      rw setup_engine (record {
+        sound = sound_by (length pairs / 2) (named 0 pairs no_sources) (empty_framer size room (record { 0 = deadline })) (omega arith)
+            (kept_empty size room (record { 0 = deadline }) setup_limits);
         some = omega arith;
-        eight = named-length 0 pairs noSources ∙ none-eight;
-        healthy = named-healthy 0 pairs noSources none-healthy;
+        eight = named-length 0 pairs no_sources ∙ none_eight;
+        healthy = named_healthy 0 pairs no_sources none_healthy;
       })

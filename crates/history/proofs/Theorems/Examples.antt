@@ -6,21 +6,21 @@ use mathlib.Core.Path.{◌≡◌, refl}
 use mathlib.Core.List.{List, [], ◌∷◌, ◌++◌, map}
 use lib.ListN.{take, replicate}
 use Rattle.codec.specs.Choice.{pick}
-use Rattle.codec.specs.Header.{headerBytes}
+use Rattle.codec.specs.Header.{header_bytes}
 use Rattle.codec.specs.Item.{encode}
 use Rattle.codec.specs.Layout.{layout}
 use Rattle.mirror.specs.Call.{Call, Said}
 use Rattle.mirror.specs.Call as Call
 use Rattle.mirror.specs.Row.{Row}
 use Rattle.mirror.specs.Vectors.{p1, p2, p3, p4, p5, p6, p7, p8, p9}
-use Rattle.mirror.specs.LaterVectors.{p10, p11, p11-first, p11-fifth, p13}
-use Rattle.history.specs.Meaning.{canState, meaning}
-use Rattle.history.specs.Account.{freshAccount, kindNamed, accountsFor, accountAt, startedAccount, stoppedAccount, updatedAccount, differs, showsBy, reportEvent, reportedAccount, callsFor, stateEvent, tickedAccount, changed}
-use Rattle.history.specs.Ledger.{Ledger, emptyLedger, discardCount, stateIn, itemIn, sizeIn, takenIn, waitingIn, failureCount, sentIn, offsetIn, line_for, closesBefore, overdue, hasRoom, close, begin, enter, mirrored, passed, taken, isOut, failed}
-use Rattle.history.specs.Deed.{Deed, done, ops_of, accountsBy, ledgerOf}
-use Rattle.history.specs.Clock.{behind, tellsBy, saysBy}
-use Rattle.history.specs.Loss.{failedIn}
-use Rattle.history.specs.History.{framesTaken}
+use Rattle.mirror.specs.LaterVectors.{p10, p11, p11-first, p11_fifth, p13}
+use Rattle.history.specs.Meaning.{can_state, meaning}
+use Rattle.history.specs.Account.{fresh_account, kind_named, accounts_for, account_at, started_account, stopped_account, updated_account, differs, shows_by, report_event, reported_account, calls_for, state_event, ticked_account, changed}
+use Rattle.history.specs.Ledger.{Ledger, empty_ledger, discard_count, state_in, item_in, size_in, taken_in, waiting_in, failure_count, sent_in, offset_in, line_for, closes_before, overdue, has_room, close, begin, enter, mirrored, passed, taken, is_out, failed}
+use Rattle.history.specs.Deed.{Deed, done, ops_of, accounts_by, ledger_of}
+use Rattle.history.specs.Clock.{behind, tells_by, says_by}
+use Rattle.history.specs.Loss.{failed_in}
+use Rattle.history.specs.History.{frames_taken}
 use Rattle.history.proofs.Ground.Machine.{laid}
 
 abbrev pub paired : List Call → List Said → List Deed
@@ -49,31 +49,31 @@ abbrev pub deeds : Case → List Deed
 deeds t = paired (later t.row.calls) (later t.row.said)
 
 abbrev pub ledger : Case → List Deed → Ledger
-ledger t ds = ledgerOf (record { size = t.size; room = t.room; deadline = t.deadline }) (accountsFor t.pairs) ds
+ledger t ds = ledger_of (record { size = t.size; room = t.room; deadline = t.deadline }) (accounts_for t.pairs) ds
 
 -- of the clock, one deed after the other: what the ledger before it tells, and what the table says
 abbrev pub tells : Case → List Deed → List Deed → List ℕ
 tells t before [] = []
-tells t before (d ∷ ds) = tellsBy (ledger t before) d ++ tells t (before ++ (d ∷ [])) ds
+tells t before (d ∷ ds) = tells_by (ledger t before) d ++ tells t (before ++ (d ∷ [])) ds
 
 abbrev pub says : List Deed → List ℕ
 says [] = []
-says (d ∷ ds) = saysBy d ++ says ds
+says (d ∷ ds) = says_by d ++ says ds
 
 -- of `failed`, the same: what the ledger before it lets it be answered, and what the table says
 abbrev pub allows : Case → List Deed → List Deed → List ℕ
 allows t before [] = []
 allows t before (d ∷ ds) =
-    replicate (failedIn (meaning d.call)) (pick (isOut (ledger t before).sends) 0 17) ++ allows t (before ++ (d ∷ [])) ds
+    replicate (failed_in (meaning d.call)) (pick (is_out (ledger t before).sends) 0 17) ++ allows t (before ++ (d ∷ [])) ds
 
 abbrev pub answers : List Deed → List ℕ
 answers [] = []
-answers (d ∷ ds) = replicate (failedIn (meaning d.call)) d.said.answer ++ answers ds
+answers (d ∷ ds) = replicate (failed_in (meaning d.call)) d.said.answer ++ answers ds
 
 pub record Agrees (t : Case) : Type 0 where
-  pub taken : map laid (takenIn (ledger t (deeds t))) ≡ framesTaken (deeds t)
-  pub discards : discardCount (ledger t (deeds t)) ≡ t.discarded
-  pub failures : failureCount (ledger t (deeds t)) ≡ t.failed
+  pub taken : map laid (taken_in (ledger t (deeds t))) ≡ frames_taken (deeds t)
+  pub discards : discard_count (ledger t (deeds t)) ≡ t.discarded
+  pub failures : failure_count (ledger t (deeds t)) ≡ t.failed
   pub tells : tells t [] (deeds t) ≡ says (deeds t)
   pub fails : allows t [] (deeds t) ≡ answers (deeds t)
 
@@ -95,9 +95,9 @@ cases =
     ∷ on 64 1 (1 ∷ 5 ∷ []) p9 1 0 ∷ on 64 3 (1 ∷ 5 ∷ []) p10 0 0 ∷ on 64 1 (3 ∷ 7 ∷ []) p13 0 0 ∷ last ∷ []
 
 pub examples : AllAgree cases
-unfolding freshAccount kindNamed accountAt startedAccount stoppedAccount updatedAccount canState differs showsBy reportEvent reportedAccount callsFor stateEvent
-    tickedAccount changed emptyLedger discardCount failureCount stateIn itemIn sizeIn takenIn waitingIn offsetIn line_for closesBefore overdue hasRoom close begin enter
-    mirrored passed taken failed done ops_of accountsBy ledgerOf behind tellsBy saysBy laid layout headerBytes encode
+unfolding fresh_account kind_named account_at started_account stopped_account updated_account can_state differs shows_by report_event reported_account calls_for state_event
+    ticked_account changed empty_ledger discard_count failure_count state_in item_in size_in taken_in waiting_in offset_in line_for closes_before overdue has_room close begin enter
+    mirrored passed taken failed done ops_of accounts_by ledger_of behind tells_by says_by laid layout header_bytes encode
 examples = (
   (refl, record { taken = refl; discards = refl; failures = refl; tells = refl; fails = refl }),
   (
@@ -139,21 +139,21 @@ after n = ledger last (take n (deeds last))
 
 -- k calls later a receiver has no frame more, and these were lost
 pub record Silent (n k discards failures : ℕ) : Type 0 where
-  pub sent : sentIn (after (n + k)) ≡ sentIn (after n)
-  pub discarded : discardCount (after (n + k)) ≡ discardCount (after n) + discards
-  pub failed : failureCount (after (n + k)) ≡ failureCount (after n) + failures
+  pub sent : sent_in (after (n + k)) ≡ sent_in (after n)
+  pub discarded : discard_count (after (n + k)) ≡ discard_count (after n) + discards
+  pub failed : failure_count (after (n + k)) ≡ failure_count (after n) + failures
 
 -- what a receiver can have of P11, and what cannot be known of the tail: when the first frame is sent, when the second has failed,
 -- and when the third has failed too and the fourth was discarded, a receiver has the first frame alone; the fifth shows a loss
 pub record Received : Type 0 where
-  pub whole : map laid (sentIn (ledger last (deeds last))) ≡ p11-first ∷ p11-fifth ∷ []
+  pub whole : map laid (sent_in (ledger last (deeds last))) ≡ p11-first ∷ p11_fifth ∷ []
   pub second : Silent 7 6 0 1
   pub others : Silent 13 9 1 1
 
 pub received : Received
-unfolding freshAccount kindNamed accountAt startedAccount stoppedAccount updatedAccount differs showsBy reportEvent reportedAccount callsFor stateEvent
-    tickedAccount changed emptyLedger discardCount failureCount stateIn itemIn sizeIn takenIn sentIn waitingIn offsetIn line_for closesBefore overdue hasRoom close begin
-    enter mirrored passed taken failed done ops_of accountsBy ledgerOf laid layout headerBytes encode
+unfolding fresh_account kind_named account_at started_account stopped_account updated_account differs shows_by report_event reported_account calls_for state_event
+    ticked_account changed empty_ledger discard_count failure_count state_in item_in size_in taken_in sent_in waiting_in offset_in line_for closes_before overdue has_room close begin
+    enter mirrored passed taken failed done ops_of accounts_by ledger_of laid layout header_bytes encode
 received = record {
   whole = refl;
   second = record { sent = refl; discarded = refl; failed = refl };

@@ -6,29 +6,29 @@ use lib.ListN.{length}
 use Rattle.codec.specs.Time.{ns}
 use Rattle.codec.specs.declared.time.Time.{Time}
 use Rattle.reader.specs.Listing.{Yield, stepping}
-use Rattle.tape.proofs.PlaceLaws.{soon, positions-soon}
+use Rattle.tape.proofs.PlaceLaws.{soon, positions_soon}
 use Rattle.mirror.specs.declared.engine.Engine.{Engine}
 use Rattle.history.specs.Account.{Account}
-use Rattle.history.specs.Ledger.{Limits, Line, Frame, Ledger, keptIn, fillingIn}
+use Rattle.history.specs.Ledger.{Limits, Line, Frame, Ledger, kept_in, filling_in}
 use Rattle.history.specs.Deed.{Deed}
-use Rattle.history.specs.History.{Both, Shows, Reads, framesTaken, framesWaiting, framesFilling, History}
+use Rattle.history.specs.History.{Both, Shows, Reads, frames_taken, frames_waiting, frames_filling, History}
 use Rattle.history.specs.Tape.{OnTape, FrameOnTape}
-use Rattle.history.proofs.Ground.ListLaws.{both-weaken}
+use Rattle.history.proofs.Ground.ListLaws.{both_weaken}
 use Rattle.history.proofs.Theorems.Lossless.{in_order}
 
 -- ten microseconds are less than a sample
-pub shown-on-tape : (start : Time) (y : Yield) (x : Line) → Shows y x → OnTape start y x
-shown-on-tape start y x h =
-    let a = h.never-after in
+pub shown_on_tape : (start : Time) (y : Yield) (x : Line) → Shows y x → OnTape start y x
+shown_on_tape start y x h =
+    let a = h.never_after in
     let b = h.near in
     let k : ns x.event.time ≤ ns y.time + 20833 = omega arith in
-    record { sample = soon (ns start) (ns y.time) (ns x.event.time) a k; position = positions-soon start y.time x.event.time a k }
+    record { sample = soon (ns start) (ns y.time) (ns x.event.time) a k; position = positions_soon start y.time x.event.time a k }
 
-pub read-on-tape : (start : Time) (s : List ℕ) (f : Frame) → Reads s f → FrameOnTape start s f
-read-on-tape start s f h = both-weaken Shows (OnTape start) (shown-on-tape start) (stepping (length s) s 14) f.lines h.lines
+pub read_on_tape : (start : Time) (s : List ℕ) (f : Frame) → Reads s f → FrameOnTape start s f
+read_on_tape start s f h = both_weaken Shows (OnTape start) (shown_on_tape start) (stepping (length s) s 14) f.lines h.lines
 
 -- for any start, in every frame that was taken, waits or is being filled
-pub on-tape : (c : Limits) (book : List Account) (ds : List Deed) (l : Ledger) (u : Engine) → History c book ds l u → (start : Time)
-    → Both (FrameOnTape start) (framesTaken ds ++ framesWaiting u ++ framesFilling u) (keptIn l.closed ++ fillingIn l)
-on-tape c book ds l u h start =
-    both-weaken Reads (FrameOnTape start) (read-on-tape start) (framesTaken ds ++ framesWaiting u ++ framesFilling u) (keptIn l.closed ++ fillingIn l) (in_order c book ds l u h)
+pub on_tape : (c : Limits) (book : List Account) (ds : List Deed) (l : Ledger) (u : Engine) → History c book ds l u → (start : Time)
+    → Both (FrameOnTape start) (frames_taken ds ++ frames_waiting u ++ frames_filling u) (kept_in l.closed ++ filling_in l)
+on_tape c book ds l u h start =
+    both_weaken Reads (FrameOnTape start) (read_on_tape start) (frames_taken ds ++ frames_waiting u ++ frames_filling u) (kept_in l.closed ++ filling_in l) (in_order c book ds l u h)

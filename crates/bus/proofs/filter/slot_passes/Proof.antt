@@ -3,7 +3,7 @@ use mathlib.Core.Path.{◌≡◌, sym, ◌∙◌}
 use lib.ListN.{length, drop}
 use Rattle.codec.specs.declared.ident.Ident.TheVariants as Ident
 use Rattle.bus.specs.Source.{passes}
-use Rattle.bus.proofs.BusLaws.{passes-hit, passes-miss, passes-end, length-mapped}
+use Rattle.bus.proofs.BusLaws.{passes_hit, passes_miss, passes_end, length_mapped}
 use borrow.Author.Rules.{rules}
 use native.Mathlib.Omega.{arith}
 use Rattle.bus.proofs.filter.slot_passes.Statement.{statement}
@@ -16,7 +16,7 @@ abbrev decreases-loop : tie.decreases-loop
 decreases-loop slot cycle places i₀ i = 8 - i
 
 len : (c : tie.At-loop invariant-loop decreases-loop) → length c.before.args.t1 ≡ 8
-len c = search (rules, length-mapped)
+len c = search (rules, length_mapped)
 
 in-range : (c : tie.In-loop invariant-loop decreases-loop) → c.before.loop.i < length c.before.before.args.t1
 in-range c = omega (arith, len c.before)
@@ -29,8 +29,8 @@ slot-passes-spec = tie.close (tie.spec
     (λ c. search rules)
     (λ c. search rules)
     (λ c κs. search rules)
-    (λ c. sym (c.before.before.before.before.loop.invariant.1 ∙ passes-hit _ _ _ (in-range c.before.before.before) _ (sym c.before.slot-matches.ensures ∙ c.if1.true)))
+    (λ c. sym (c.before.before.before.before.loop.invariant.1 ∙ passes_hit _ _ _ (in-range c.before.before.before) _ (sym c.before.slot-matches.ensures ∙ c.if1.true)))
     (λ c. search rules)
     (λ c. search rules)
-    (λ c. (search rules, c.before.before.before.before.loop.invariant.1 ∙ passes-miss _ _ _ (in-range c.before.before.before) _ (sym c.before.slot-matches.ensures ∙ c.if1.false)))
-    (λ c. sym (c.before.loop.invariant.1 ∙ passes-end c.before.before.args.t1 c.before.loop.i _ (omega (arith, len c.before)))))
+    (λ c. (search rules, c.before.before.before.before.loop.invariant.1 ∙ passes_miss _ _ _ (in-range c.before.before.before) _ (sym c.before.slot-matches.ensures ∙ c.if1.false)))
+    (λ c. sym (c.before.loop.invariant.1 ∙ passes_end c.before.before.args.t1 c.before.loop.i _ (omega (arith, len c.before)))))

@@ -1,10 +1,10 @@
-use Rattle.bus.specs.Report.{earlyCause}
+use Rattle.bus.specs.Report.{early_cause}
 use borrow.Author.Rules.{rules}
 use Rattle.bus.proofs.report.early_cause.Statement.{statement}
 use Rattle.bus.proofs.report.early_cause.Tie as tie
 
 pub early-cause-spec : {M : Type 1} → statement M
-unfolding earlyCause
+unfolding early_cause
 early-cause-spec = tie.close (tie.spec
     (λ c κs. search rules)
     (λ c κs. search rules)

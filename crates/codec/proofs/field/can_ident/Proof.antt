@@ -1,12 +1,12 @@
 use mathlib.Core.Path.{sym, ◌∙◌}
 use borrow.Author.Tests.{not-true, not-false}
-use Rattle.codec.specs.Field.{canIdent}
+use Rattle.codec.specs.Field.{can_ident}
 use borrow.Author.Rules.{rules}
 use Rattle.codec.proofs.field.can_ident.Statement.{statement}
 use Rattle.codec.proofs.field.can_ident.Tie as tie
 
 pub can-ident-spec : {M : Type 1} → statement M
-unfolding canIdent
+unfolding can_ident
 can-ident-spec =
     tie.close
     (tie.spec

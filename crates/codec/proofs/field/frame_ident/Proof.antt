@@ -1,11 +1,11 @@
 use mathlib.Core.Path.{sym, ◌∙◌}
-use Rattle.codec.specs.Field.{frameIdent}
+use Rattle.codec.specs.Field.{frame_ident}
 use borrow.Author.Rules.{rules}
 use Rattle.codec.proofs.field.frame_ident.Statement.{statement}
 use Rattle.codec.proofs.field.frame_ident.Tie as tie
 
 pub frame-ident-spec : {M : Type 1} → statement M
-unfolding frameIdent
+unfolding frame_ident
 frame-ident-spec =
     tie.close
     (tie.spec

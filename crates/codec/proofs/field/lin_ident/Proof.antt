@@ -1,11 +1,11 @@
 use mathlib.Core.Path.{sym, ◌∙◌}
-use Rattle.codec.specs.Field.{linIdent}
+use Rattle.codec.specs.Field.{lin_ident}
 use borrow.Author.Rules.{rules}
 use Rattle.codec.proofs.field.lin_ident.Statement.{statement}
 use Rattle.codec.proofs.field.lin_ident.Tie as tie
 
 pub lin-ident-spec : {M : Type 1} → statement M
-unfolding linIdent
+unfolding lin_ident
 lin-ident-spec =
     tie.close
     (tie.spec

@@ -1,11 +1,11 @@
 use mathlib.Core.Path.{sym, ◌∙◌}
-use Rattle.codec.specs.Field.{readCan}
+use Rattle.codec.specs.Field.{read_can}
 use borrow.Author.Rules.{rules}
 use Rattle.codec.proofs.field.read_can.Statement.{statement}
 use Rattle.codec.proofs.field.read_can.Tie as tie
 
 pub read-can-spec : {M : Type 1} → statement M
-unfolding readCan
+unfolding read_can
 read-can-spec =
     tie.close
     (tie.spec

@@ -1,12 +1,12 @@
 use mathlib.Core.Path.{sym, ◌∙◌}
 use lib.Bits.{and_mask}
-use Rattle.codec.specs.Field.{readFlags}
+use Rattle.codec.specs.Field.{read_flags}
 use borrow.Author.Rules.{rules}
 use Rattle.codec.proofs.field.read_flags.Statement.{statement}
 use Rattle.codec.proofs.field.read_flags.Tie as tie
 
 pub read-flags-spec : {M : Type 1} → statement M
-unfolding readFlags
+unfolding read_flags
 read-flags-spec =
     tie.close
     (tie.spec

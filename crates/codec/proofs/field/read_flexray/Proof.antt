@@ -1,5 +1,5 @@
 use mathlib.Core.Path.{sym, ◌∙◌}
-use Rattle.codec.specs.Field.{readFlexray}
+use Rattle.codec.specs.Field.{read_flexray}
 use Rattle.codec.proofs.NumberLaws.{part_room}
 use borrow.Author.Rules.{rules}
 use native.Mathlib.Omega.{arith}
@@ -7,7 +7,7 @@ use Rattle.codec.proofs.field.read_flexray.Statement.{statement}
 use Rattle.codec.proofs.field.read_flexray.Tie as tie
 
 pub read-flexray-spec : {M : Type 1} → statement M
-unfolding readFlexray
+unfolding read_flexray
 read-flexray-spec =
     tie.close
     (tie.spec

@@ -1,12 +1,12 @@
 use mathlib.Core.Path.{◌∙◌}
 use borrow.Author.Tests.{not-true, not-false}
-use Rattle.codec.specs.Field.{readIdent}
+use Rattle.codec.specs.Field.{read_ident}
 use borrow.Author.Rules.{rules}
 use Rattle.codec.proofs.field.read_ident.Statement.{statement}
 use Rattle.codec.proofs.field.read_ident.Tie as tie
 
 pub read-ident-spec : {M : Type 1} → statement M
-unfolding readIdent
+unfolding read_ident
 read-ident-spec =
     tie.close
     (tie.spec

@@ -1,11 +1,11 @@
 use mathlib.Core.Path.{sym, ◌∙◌}
-use Rattle.codec.specs.Field.{readLin}
+use Rattle.codec.specs.Field.{read_lin}
 use borrow.Author.Rules.{rules}
 use Rattle.codec.proofs.field.read_lin.Statement.{statement}
 use Rattle.codec.proofs.field.read_lin.Tie as tie
 
 pub read-lin-spec : {M : Type 1} → statement M
-unfolding readLin
+unfolding read_lin
 read-lin-spec =
     tie.close
     (tie.spec

@@ -1,12 +1,12 @@
 use mathlib.Core.Path.{sym, ◌∙◌}
 use borrow.Author.Tests.{lt-ltb, le-ltb, not-true, not-false}
-use Rattle.codec.specs.Field.{readLoad}
+use Rattle.codec.specs.Field.{read_load}
 use borrow.Author.Rules.{rules}
 use Rattle.codec.proofs.field.read_load.Statement.{statement}
 use Rattle.codec.proofs.field.read_load.Tie as tie
 
 pub read-load-spec : {M : Type 1} → statement M
-unfolding readLoad
+unfolding read_load
 read-load-spec =
     tie.close
     (tie.spec

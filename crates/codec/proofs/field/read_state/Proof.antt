@@ -1,12 +1,12 @@
 use mathlib.Core.Path.{sym, ◌∙◌}
 use borrow.Author.Tests.{not-true, not-false}
-use Rattle.codec.specs.Field.{readState}
+use Rattle.codec.specs.Field.{read_state}
 use borrow.Author.Rules.{rules}
 use Rattle.codec.proofs.field.read_state.Statement.{statement}
 use Rattle.codec.proofs.field.read_state.Tie as tie
 
 pub read-state-spec : {M : Type 1} → statement M
-unfolding readState
+unfolding read_state
 read-state-spec =
     tie.close
     (tie.spec

@@ -1,5 +1,5 @@
 use mathlib.Core.Path.{sym, ap}
-use Rattle.codec.specs.Field.{whyFlags}
+use Rattle.codec.specs.Field.{why_flags}
 use borrow.Author.Rules.{rules}
 use Rattle.codec.proofs.field.why_flags.Statement.{statement}
 use Rattle.codec.proofs.field.why_flags.Tie as tie
@@ -10,5 +10,5 @@ why-flags-spec =
     (tie.spec
     (λ c. search rules)
     (λ c. search rules)
-    (λ c. sym (ap whyFlags c.enum_told.given.1))
-    (λ c. sym (ap whyFlags c.before.r.given.1)))
+    (λ c. sym (ap why_flags c.enum_told.given.1))
+    (λ c. sym (ap why_flags c.before.r.given.1)))

@@ -1,5 +1,5 @@
 use mathlib.Core.Path.{sym, ap}
-use Rattle.codec.specs.Field.{whyIdent}
+use Rattle.codec.specs.Field.{why_ident}
 use borrow.Author.Rules.{rules}
 use Rattle.codec.proofs.field.why_ident.Statement.{statement}
 use Rattle.codec.proofs.field.why_ident.Tie as tie
@@ -10,5 +10,5 @@ why-ident-spec =
     (tie.spec
     (λ c. search rules)
     (λ c. search rules)
-    (λ c. sym (ap whyIdent c.enum_told.given.1))
-    (λ c. sym (ap whyIdent c.before.r.given.1)))
+    (λ c. sym (ap why_ident c.enum_told.given.1))
+    (λ c. sym (ap why_ident c.before.r.given.1)))

@@ -1,5 +1,5 @@
 use mathlib.Core.Path.{sym, ap}
-use Rattle.codec.specs.Field.{whyLoad}
+use Rattle.codec.specs.Field.{why_load}
 use borrow.Author.Rules.{rules}
 use Rattle.codec.proofs.field.why_load.Statement.{statement}
 use Rattle.codec.proofs.field.why_load.Tie as tie
@@ -10,5 +10,5 @@ why-load-spec =
     (tie.spec
     (λ c. search rules)
     (λ c. search rules)
-    (λ c. sym (ap whyLoad c.enum_told.given.1))
-    (λ c. sym (ap whyLoad c.before.r.given.1)))
+    (λ c. sym (ap why_load c.enum_told.given.1))
+    (λ c. sym (ap why_load c.before.r.given.1)))

@@ -1,5 +1,5 @@
 use mathlib.Core.Path.{sym, ap}
-use Rattle.codec.specs.Field.{whyState}
+use Rattle.codec.specs.Field.{why_state}
 use borrow.Author.Rules.{rules}
 use Rattle.codec.proofs.field.why_state.Statement.{statement}
 use Rattle.codec.proofs.field.why_state.Tie as tie
@@ -10,5 +10,5 @@ why-state-spec =
     (tie.spec
     (λ c. search rules)
     (λ c. search rules)
-    (λ c. sym (ap whyState c.enum_told.given.1))
-    (λ c. sym (ap whyState c.before.r.given.1)))
+    (λ c. sym (ap why_state c.enum_told.given.1))
+    (λ c. sym (ap why_state c.before.r.given.1)))

@@ -1,10 +1,10 @@
 use lib.Bits.{and_mask}
-use Rattle.codec.specs.Ident.{canZero}
+use Rattle.codec.specs.Ident.{can_zero}
 use Rattle.codec.proofs.ident.can_zero.Statement.{statement}
 use Rattle.codec.proofs.ident.can_zero.Tie as tie
 
 pub can-zero-spec : {M : Type 1} → statement M
-unfolding canZero
+unfolding can_zero
 can-zero-spec =
     tie.close
     (tie.spec

@@ -1,10 +1,10 @@
 use borrow.Author.Tests.{eq-eqb, ne_eqb}
-use Rattle.codec.specs.Ident.{kindIn}
+use Rattle.codec.specs.Ident.{kind_in}
 use Rattle.codec.proofs.ident.kind_in.Statement.{statement}
 use Rattle.codec.proofs.ident.kind_in.Tie as tie
 
 pub kind-in-spec : {M : Type 1} → statement M
-unfolding kindIn
+unfolding kind_in
 kind-in-spec =
     tie.close
     (tie.spec

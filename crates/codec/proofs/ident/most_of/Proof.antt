@@ -1,5 +1,5 @@
 use mathlib.Core.Path.{sym, ap, ◌∙◌}
-use Rattle.codec.specs.Ident.{most_of, canMost}
+use Rattle.codec.specs.Ident.{most_of, can_most}
 use borrow.Author.Rules.{rules}
 use native.Mathlib.Omega.{arith}
 use Rattle.codec.proofs.ident.most_of.Statement.{statement}
@@ -16,7 +16,7 @@ most-of-spec =
     (λ c. search rules)
     (λ c. search rules)
     (λ c. search rules)
-    (λ c. record { is = c.can-most.ensures.is ∙ ap canMost c.before.can-fd.ensures ∙ sym (ap most_of c.before.before.before.id.given.1); below = omega arith })
+    (λ c. record { is = c.can-most.ensures.is ∙ ap can_most c.before.can-fd.ensures ∙ sym (ap most_of c.before.before.before.id.given.1); below = omega arith })
     (λ c. search rules)
     (λ c. search rules)
     (λ c. search rules)

@@ -1,4 +1,4 @@
-use Rattle.codec.proofs.ItemLaws.{front-sum}
+use Rattle.codec.proofs.ItemLaws.{front_sum}
 use borrow.Author.Rules.{rules}
 use Rattle.codec.proofs.item.flexray_front.Statement.{statement}
 use Rattle.codec.proofs.item.flexray_front.Tie as tie
@@ -8,4 +8,4 @@ flexray-front-spec =
     tie.close
     (tie.spec
     (λ c. search rules)
-    (λ c. front-sum _ _ c.requires.0 c.requires.1))
+    (λ c. front_sum _ _ c.requires.0 c.requires.1))

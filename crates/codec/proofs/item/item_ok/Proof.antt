@@ -1,10 +1,10 @@
-use Rattle.codec.specs.Item.{itemOk}
+use Rattle.codec.specs.Item.{item_ok}
 use borrow.Author.Rules.{rules}
 use Rattle.codec.proofs.item.item_ok.Statement.{statement}
 use Rattle.codec.proofs.item.item_ok.Tie as tie
 
 pub item-ok-spec : {M : Type 1} → statement M
-unfolding itemOk
+unfolding item_ok
 item-ok-spec =
     tie.close
     (tie.spec

@@ -1,4 +1,4 @@
-use Rattle.codec.proofs.ItemLaws.{set-made}
+use Rattle.codec.proofs.ItemLaws.{set_made}
 use borrow.Author.Rules.{rules}
 use Rattle.codec.proofs.item.set_of.Statement.{statement}
 use Rattle.codec.proofs.item.set_of.Tie as tie
@@ -10,4 +10,4 @@ set-of-spec =
     (λ c κs. search rules)
     (λ c κs. search rules)
     (λ c. search rules)
-    (λ c. set-made c.before.before.args.carries c.before.state-bit.ensures c.ident-bit.ensures))
+    (λ c. set_made c.before.before.args.carries c.before.state-bit.ensures c.ident-bit.ensures))

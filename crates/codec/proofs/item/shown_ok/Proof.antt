@@ -1,5 +1,5 @@
 use mathlib.Core.Path.{sym, ap, ◌∙◌}
-use Rattle.codec.specs.Item.{shownOk}
+use Rattle.codec.specs.Item.{shown_ok}
 use Rattle.codec.specs.declared.ident.Kind.{Kind}
 use borrow.Author.Rules.{rules}
 use Rattle.codec.proofs.item.shown_ok.Statement.{statement}
@@ -14,5 +14,5 @@ shown-ok-spec =
     (λ c κs. search rules)
     (λ c. search rules)
     (λ c. search rules)
-    (λ c. c.lin-zero.ensures ∙ sym (ap (λ (k : Kind). shownOk k c.before.before.before.args.b) c.before.enum-told2.given.1))
+    (λ c. c.lin-zero.ensures ∙ sym (ap (λ (k : Kind). shown_ok k c.before.before.before.args.b) c.before.enum-told2.given.1))
     (λ c. search rules))

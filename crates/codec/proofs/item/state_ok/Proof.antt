@@ -1,5 +1,5 @@
 use mathlib.Core.Path.{sym, ap, ◌∙◌}
-use Rattle.codec.specs.Item.{stateOk}
+use Rattle.codec.specs.Item.{state_ok}
 use borrow.Author.Rules.{rules}
 use Rattle.codec.proofs.item.state_ok.Statement.{statement}
 use Rattle.codec.proofs.item.state_ok.Tie as tie
@@ -11,5 +11,5 @@ state-ok-spec =
     (λ c. search rules)
     (λ c κs. search rules)
     (λ c. search rules)
-    (λ c. c.shown_Ok.ensures ∙ sym (ap (stateOk _) c.before.before.state.given.1))
+    (λ c. c.shown_Ok.ensures ∙ sym (ap (state_ok _) c.before.before.state.given.1))
     (λ c. search rules))

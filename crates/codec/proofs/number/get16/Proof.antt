@@ -1,7 +1,7 @@
 use mathlib.Core.Path.{ap}
 use Prim.Native.Nat.{ℕ, ◌+◌}
 use Rattle.codec.proofs.NumberLaws.{miss, hit}
-use Rattle.codec.specs.Number.{get16Of}
+use Rattle.codec.specs.Number.{get16_of}
 use Rattle.codec.specs.declared.number.Read16.TheVariants as Read16
 use borrow.Author.Rules.{rules}
 use native.Mathlib.Omega.{arith}
@@ -9,7 +9,7 @@ use Rattle.codec.proofs.number.get16.Statement.{statement}
 use Rattle.codec.proofs.number.get16.Tie as tie
 
 pub get16-spec : {M : Type 1} → statement M
-unfolding get16Of
+unfolding get16_of
 get16-spec =
     tie.close
     (tie.spec

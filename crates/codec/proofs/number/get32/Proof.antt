@@ -1,7 +1,7 @@
 use mathlib.Core.Path.{ap}
 use Prim.Native.Nat.{ℕ, ◌+◌}
 use Rattle.codec.proofs.NumberLaws.{miss, hit}
-use Rattle.codec.specs.Number.{get32Of}
+use Rattle.codec.specs.Number.{get32_of}
 use Rattle.codec.specs.declared.number.Read32.TheVariants as Read32
 use borrow.Author.Rules.{rules}
 use native.Mathlib.Omega.{arith}
@@ -9,7 +9,7 @@ use Rattle.codec.proofs.number.get32.Statement.{statement}
 use Rattle.codec.proofs.number.get32.Tie as tie
 
 pub get32-spec : {M : Type 1} → statement M
-unfolding get32Of
+unfolding get32_of
 get32-spec =
     tie.close
     (tie.spec

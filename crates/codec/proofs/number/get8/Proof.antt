@@ -1,13 +1,13 @@
 use mathlib.Core.Path.{refl}
 use Rattle.codec.proofs.NumberLaws.{miss, hit}
-use Rattle.codec.specs.Number.{get8Of}
+use Rattle.codec.specs.Number.{get8_of}
 use borrow.Author.Rules.{rules}
 use native.Mathlib.Omega.{arith}
 use Rattle.codec.proofs.number.get8.Statement.{statement}
 use Rattle.codec.proofs.number.get8.Tie as tie
 
 pub get8-spec : {M : Type 1} → statement M
-unfolding get8Of
+unfolding get8_of
 get8-spec =
     tie.close
     (tie.spec

@@ -1,4 +1,4 @@
-use Rattle.codec.proofs.NumberLaws.{Down, down-first, down, down-last, full, length-be}
+use Rattle.codec.proofs.NumberLaws.{Down, down_first, down, down_last, full, length-be}
 use borrow.Author.Rules.{rules}
 use native.Mathlib.Omega.{arith}
 use Rattle.codec.proofs.number.put_be.Statement.{statement}
@@ -19,7 +19,7 @@ put-be-spec =
     (λ c. full (omega (arith, length-be c.before.before.args.n c.before.before.args.v)))
     (λ c. search rules)
     (λ c. full (omega (arith, length-be c.before.before.before.args.n c.before.before.before.args.v)))
-    (λ c. down-first _ _ _ _)
+    (λ c. down_first _ _ _ _)
     (λ c. search rules)
     (λ c κs. search rules)
     (λ c. search rules)
@@ -28,4 +28,4 @@ put-be-spec =
     (λ c. down _ c.before.before.loop.invariant c.before.loop-test.true (omega arith) c.low8.ensures)
     (λ c. search rules)
     (λ c. search rules)
-    (λ c. down-last c.before.loop.invariant c.loop-test.false (omega arith)))
+    (λ c. down_last c.before.loop.invariant c.loop-test.false (omega arith)))

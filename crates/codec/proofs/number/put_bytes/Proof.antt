@@ -1,6 +1,6 @@
 use lib.ListN.{length}
 use Prim.Native.Nat.{◌-◌}
-use Rattle.codec.proofs.NumberLaws.{full, Copying, copying-first, copying-more, copying-end}
+use Rattle.codec.proofs.NumberLaws.{full, Copying, copying_first, copying_more, copying_end}
 use borrow.Author.Rules.{rules}
 use native.Mathlib.Omega.{arith}
 use Rattle.codec.proofs.number.put_bytes.Statement.{statement}
@@ -21,13 +21,13 @@ put-bytes-spec =
     (λ c. full (omega arith))
     (λ c. search rules)
     (λ c. full (omega arith))
-    (λ c. copying-first _ _ _)
+    (λ c. copying_first _ _ _)
     (λ c. search rules)
     (λ c. search rules)
     (λ c. search rules)
     (λ c. search rules)
     (λ c. search rules)
-    (λ c. copying-more c.before.before.loop.invariant c.before.loop-test.true)
+    (λ c. copying_more c.before.before.loop.invariant c.before.loop-test.true)
     (λ c. search rules)
     (λ c. c.before.loop.invariant.size)
-    (λ c. copying-end c.before.loop.invariant c.loop-test.false (omega arith)))
+    (λ c. copying_end c.before.loop.invariant c.loop-test.false (omega arith)))

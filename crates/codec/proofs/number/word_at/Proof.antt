@@ -1,4 +1,4 @@
-use Rattle.codec.proofs.NumberLaws.{word_wide, word-short, word-found}
+use Rattle.codec.proofs.NumberLaws.{word_wide, word_short, word_found}
 use borrow.Author.Rules.{rules}
 use native.Mathlib.Omega.{arith}
 use Rattle.codec.proofs.number.word_at.Statement.{statement}
@@ -9,8 +9,8 @@ word-at-spec =
     tie.close
     (tie.spec
     (λ c. word_wide _ _ _ c.if1.true)
-    (λ c. word-short _ _ _ c.before.if1.false (omega arith))
+    (λ c. word_short _ _ _ c.before.if1.false (omega arith))
     (λ c. search rules)
-    (λ c. word-short _ _ _ c.before.before.if1.false (omega arith))
+    (λ c. word_short _ _ _ c.before.before.if1.false (omega arith))
     (λ c κs. search rules)
-    (λ c. word-found _ _ c.before.before.before.if1.false (omega arith) c.word-be.ensures))
+    (λ c. word_found _ _ c.before.before.before.if1.false (omega arith) c.word-be.ensures))

@@ -1,5 +1,5 @@
 use mathlib.Core.Path.{sym, ap, ◌∙◌}
-use Rattle.codec.proofs.TimeLaws.{by-deadline}
+use Rattle.codec.proofs.TimeLaws.{by_deadline}
 use mathlib.Core.Bool.{◌&&◌}
 use lib.Dec.{leb}
 use Prim.Native.Nat.{ℕ}
@@ -17,6 +17,6 @@ overdue-spec =
     (λ c κs. search rules)
     (λ c. search rules)
     (λ c. search rules)
-    (λ c. ap (λ (m : ℕ). leb 1 c.before.before.before.before.before.before.args.deadline.0 && leb c.before.before.before.before.before.before.args.deadline.0 m) c.before.millis-of-nanos.ensures.is ∙ by-deadline _ _ c.before.before.before.before.before.before.args.deadline.0 (omega arith) _ (sym c.before.before.before.before.before.apart.ensures ∙ c.before.before.before.n.given.1))
-    (λ c. by-deadline _ _ c.before.before.before.args.deadline.0 (omega arith) _ (sym c.before.before.apart.ensures ∙ c.enum_told.given.1))
-    (λ c. by-deadline _ _ c.before.before.before.args.deadline.0 (omega arith) _ (sym c.before.before.apart.ensures ∙ c.enum-told2.given.1)))
+    (λ c. ap (λ (m : ℕ). leb 1 c.before.before.before.before.before.before.args.deadline.0 && leb c.before.before.before.before.before.before.args.deadline.0 m) c.before.millis-of-nanos.ensures.is ∙ by_deadline _ _ c.before.before.before.before.before.before.args.deadline.0 (omega arith) _ (sym c.before.before.before.before.before.apart.ensures ∙ c.before.before.before.n.given.1))
+    (λ c. by_deadline _ _ c.before.before.before.args.deadline.0 (omega arith) _ (sym c.before.before.apart.ensures ∙ c.enum_told.given.1))
+    (λ c. by_deadline _ _ c.before.before.before.args.deadline.0 (omega arith) _ (sym c.before.before.apart.ensures ∙ c.enum-told2.given.1)))

@@ -1,4 +1,4 @@
-use Rattle.codec.proofs.TimeLaws.{recovered-fits, recovered-cut}
+use Rattle.codec.proofs.TimeLaws.{recovered_fits, recovered_cut}
 use borrow.Author.Rules.{rules}
 use native.Mathlib.Omega.{arith}
 use Rattle.codec.proofs.time.recovered.Statement.{statement}
@@ -14,5 +14,5 @@ recovered-spec =
     (λ c. search rules)
     (λ c. search rules)
     (λ c. search rules)
-    (λ c. recovered-fits c.before.before.before.before.args.header c.before.before.before.before.args.offset.0 _ c.before.before.before.nanos-of-ticks.ensures.is (omega arith))
-    (λ c. recovered-cut c.before.before.before.before.args.header c.before.before.before.before.args.offset.0 _ c.before.before.before.nanos-of-ticks.ensures.is (omega arith)))
+    (λ c. recovered_fits c.before.before.before.before.args.header c.before.before.before.before.args.offset.0 _ c.before.before.before.nanos-of-ticks.ensures.is (omega arith))
+    (λ c. recovered_cut c.before.before.before.before.args.header c.before.before.before.before.args.offset.0 _ c.before.before.before.nanos-of-ticks.ensures.is (omega arith)))

@@ -1,11 +1,11 @@
 use borrow.Author.Tests.{le-leb, lt-leb}
-use Rattle.codec.specs.Time.{ticksOf}
+use Rattle.codec.specs.Time.{ticks_of}
 use borrow.Author.Rules.{rules}
 use Rattle.codec.proofs.time.ticks_of_nanos.Statement.{statement}
 use Rattle.codec.proofs.time.ticks_of_nanos.Tie as tie
 
 pub ticks-of-nanos-spec : {M : Type 1} → statement M
-unfolding ticksOf
+unfolding ticks_of
 ticks-of-nanos-spec =
     tie.close
     (tie.spec

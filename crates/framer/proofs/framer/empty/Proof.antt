@@ -1,10 +1,10 @@
-use Rattle.framer.specs.Framer.{emptyFramer}
+use Rattle.framer.specs.Framer.{empty_framer}
 use Rattle.std.proofs.Common.{rules}
 use Rattle.framer.proofs.framer.empty.Statement.{statement}
 use Rattle.framer.proofs.framer.empty.Tie as tie
 
 pub empty-spec : {M : Type 1} → statement M
-unfolding emptyFramer
+unfolding empty_framer
 empty-spec = tie.close (tie.spec
     (λ c κs. search rules)
     (λ c κs. search rules)

@@ -1,10 +1,10 @@
-use Rattle.framer.specs.Meter.{closedMeter}
+use Rattle.framer.specs.Meter.{closed_meter}
 use Rattle.std.proofs.Common.{rules, le-ltb, lt-ltb}
 use Rattle.framer.proofs.meter.closed_meter.Statement.{statement}
 use Rattle.framer.proofs.meter.closed_meter.Tie as tie
 
 pub closed-meter-spec : {M : Type 1} → statement M
-unfolding closedMeter
+unfolding closed_meter
 closed-meter-spec = tie.close (tie.spec
     (λ c. search rules)
     (λ c. rw (lt-ltb _ _ c.before.if1.true))

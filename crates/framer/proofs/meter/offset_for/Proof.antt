@@ -1,10 +1,10 @@
-use Rattle.framer.specs.Meter.{offsetFor}
+use Rattle.framer.specs.Meter.{offset_for}
 use Rattle.std.proofs.Common.{rules, eq-eqb, ne_eqb}
 use Rattle.framer.proofs.meter.offset_for.Statement.{statement}
 use Rattle.framer.proofs.meter.offset_for.Tie as tie
 
 pub offset-for-spec : {M : Type 1} → statement M
-unfolding offsetFor
+unfolding offset_for
 offset-for-spec = tie.close (tie.spec
     (λ c. rw (eq-eqb _ _ c.if1.true))
     (λ c κs. search rules)

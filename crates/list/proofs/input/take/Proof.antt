@@ -1,7 +1,7 @@
 use Prim.Native.Nat.{◌≤◌}
 use mathlib.Core.Path.{◌≡◌, ◌∙◌}
 use lib.ListN.{length, length-take, length-drop}
-use Rattle.recording.proofs.PlaceLaws.{step-most, step-some}
+use Rattle.recording.proofs.PlaceLaws.{step_most, step_some}
 use native.Mathlib.Omega.{arith}
 use borrow.Author.Rules.{rules}
 use Rattle.list.proofs.input.take.Statement.{statement}
@@ -22,11 +22,11 @@ take_spec =
     (λ c. search rules)
     (λ c κs. search rules)
     (λ c κs. search rules)
-    (λ c. omega (arith, step-most _ _ _ c.before.before.before.before.before.before.before.before.before.before.next.ensures))
-    (λ c. omega (arith, step-most _ _ _ c.before.before.before.before.before.before.before.before.before.before.next.ensures))
-    (λ c. omega (arith, step-most _ _ _ c.before.before.before.before.before.before.before.before.before.before.next.ensures))
-    (λ c. simp (length-take, length-drop) (omega (arith, step-most _ _ _ c.before.before.before.before.before.before.before.before.before.before.before.next.ensures, step-some _ _ _ c.before.before.before.before.before.before.before.before.before.before.before.next.ensures (omega (arith, c.before.before.before.before.before.before.before.before.before.before.before.before.before.before.before.loop-test.true)))))
-    (λ c. (c.before.before.before.found.auto.1.1.1.1.1.0 ∙ c.before.before.before.before.before.before.before.before.before.before.before.before.before.before.before.before.loop.invariant.0, simp (length-take, length-drop) (omega (arith, step-most _ _ _ c.before.before.before.before.before.before.before.before.before.before.before.next.ensures, c.before.before.before.before.before.before.before.before.before.before.before.before.before.before.before.before.loop.invariant.1))))
+    (λ c. omega (arith, step_most _ _ _ c.before.before.before.before.before.before.before.before.before.before.next.ensures))
+    (λ c. omega (arith, step_most _ _ _ c.before.before.before.before.before.before.before.before.before.before.next.ensures))
+    (λ c. omega (arith, step_most _ _ _ c.before.before.before.before.before.before.before.before.before.before.next.ensures))
+    (λ c. simp (length-take, length-drop) (omega (arith, step_most _ _ _ c.before.before.before.before.before.before.before.before.before.before.before.next.ensures, step_some _ _ _ c.before.before.before.before.before.before.before.before.before.before.before.next.ensures (omega (arith, c.before.before.before.before.before.before.before.before.before.before.before.before.before.before.before.loop-test.true)))))
+    (λ c. (c.before.before.before.found.auto.1.1.1.1.1.0 ∙ c.before.before.before.before.before.before.before.before.before.before.before.before.before.before.before.before.loop.invariant.0, simp (length-take, length-drop) (omega (arith, step_most _ _ _ c.before.before.before.before.before.before.before.before.before.before.before.next.ensures, c.before.before.before.before.before.before.before.before.before.before.before.before.before.before.before.before.loop.invariant.1))))
     (λ c κs. search rules)
     (λ c. search rules)
     (λ c. search rules))

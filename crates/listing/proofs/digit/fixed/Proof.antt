@@ -1,7 +1,7 @@
 use borrow.Author.Rules.{rules}
 use native.Mathlib.Omega.{arith}
 use native.Mathlib.Nat.{mod-lt}
-use Rattle.listing.proofs.FixedLaws.{Fixing, fixing-first, fixing-more, fixing_end}
+use Rattle.listing.proofs.FixedLaws.{Fixing, fixing_first, fixing_more, fixing_end}
 use Rattle.listing.proofs.digit.fixed.Statement.{statement}
 use Rattle.listing.proofs.digit.fixed.Tie as tie
 
@@ -17,7 +17,7 @@ fixed-spec =
     (tie.spec
     invariant-loop
     decreases-loop
-    (λ c. fixing-first _ _ _ _ _)
+    (λ c. fixing_first _ _ _ _ _)
     (λ c. search rules)
     (λ c. search rules)
     (λ c κs. omega (arith, mod-lt c.before.loop.x {m = c.before.before.before.args.base} (omega arith)))
@@ -25,7 +25,7 @@ fixed-spec =
     (λ c. search rules)
     (λ c. search rules)
     (λ c. search rules)
-    (λ c. fixing-more _ c.before.before.loop.invariant c.before.loop-test.true (omega arith) c.capital.ensures)
+    (λ c. fixing_more _ c.before.before.loop.invariant c.before.loop-test.true (omega arith) c.capital.ensures)
     (λ c. search rules)
     (λ c. c.before.loop.invariant.size)
     (λ c. fixing_end c.before.loop.invariant c.loop-test.false (omega arith)))

@@ -1,5 +1,5 @@
-use Rattle.text.proofs.ShortLaws.{short-then, short-put, short-as}
-use Rattle.listing.proofs.EscapeLaws.{escape-plain, escape-code}
+use Rattle.text.proofs.ShortLaws.{short_then, short_put, short_as}
+use Rattle.listing.proofs.EscapeLaws.{escape_plain, escape_code}
 use lib.ListN.{length}
 use mathlib.Core.Path.{sym, ap, ◌∙◌}
 use native.Mathlib.Omega.{arith}
@@ -13,13 +13,13 @@ lay-byte-spec =
     (tie.spec
     (λ c κs. search rules)
     (λ c. search rules)
-    (λ c κs. omega (arith, ap length (escape-plain _ (sym c.before.before.before.plain.ensures ∙ c.before.before.if1.true))))
+    (λ c κs. omega (arith, ap length (escape_plain _ (sym c.before.before.before.plain.ensures ∙ c.before.before.if1.true))))
     (λ c. search rules)
-    (λ c. short-as c.before.before.lay.ensures (sym (escape-plain _ (sym c.before.before.before.before.before.before.plain.ensures ∙ c.before.before.before.before.before.if1.true))) (omega arith))
+    (λ c. short_as c.before.before.lay.ensures (sym (escape_plain _ (sym c.before.before.before.before.before.before.plain.ensures ∙ c.before.before.before.before.before.if1.true))) (omega arith))
     (λ c. search rules)
-    (λ c κs. omega (arith, ap length (escape-code _ (sym c.before.before.before.plain.ensures ∙ c.before.before.if1.false))))
+    (λ c κs. omega (arith, ap length (escape_code _ (sym c.before.before.before.plain.ensures ∙ c.before.before.if1.false))))
     (λ c. search rules)
     (λ c κs. search rules)
     (λ c. search rules)
     (λ c. search rules)
-    (λ c. short-as (short-then c.before.before.before.before.before.before.before.lay2.ensures (short-put 2 c.before.before.hex.ensures (omega (arith, ap length (escape-code _ (sym c.before.before.before.before.before.before.before.before.before.before.before.plain.ensures ∙ c.before.before.before.before.before.before.before.before.before.before.if1.false)))) (omega arith))) (sym (escape-code _ (sym c.before.before.before.before.before.before.before.before.before.before.before.plain.ensures ∙ c.before.before.before.before.before.before.before.before.before.before.if1.false))) (omega arith)))
+    (λ c. short_as (short_then c.before.before.before.before.before.before.before.lay2.ensures (short_put 2 c.before.before.hex.ensures (omega (arith, ap length (escape_code _ (sym c.before.before.before.before.before.before.before.before.before.before.before.plain.ensures ∙ c.before.before.before.before.before.before.before.before.before.before.if1.false)))) (omega arith))) (sym (escape_code _ (sym c.before.before.before.before.before.before.before.before.before.before.before.plain.ensures ∙ c.before.before.before.before.before.before.before.before.before.before.if1.false))) (omega arith)))

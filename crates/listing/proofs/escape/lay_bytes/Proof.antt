@@ -1,5 +1,5 @@
-use Rattle.listing.specs.Line.{escapeOf}
-use Rattle.listing.proofs.SpreadLaws.{Spreading, spreading-first, spreading-room, spreading-more, spreading-end}
+use Rattle.listing.specs.Line.{escape_of}
+use Rattle.listing.proofs.SpreadLaws.{Spreading, spreading_first, spreading_room, spreading_more, spreading_end}
 use Prim.Native.Nat.{◌-◌}
 use lib.ListN.{length}
 use borrow.Author.Rules.{rules}
@@ -7,7 +7,7 @@ use Rattle.listing.proofs.escape.lay_bytes.Statement.{statement}
 use Rattle.listing.proofs.escape.lay_bytes.Tie as tie
 
 abbrev invariant-loop : tie.invariant-loop
-invariant-loop out₀ at src i₀ k₀ out i k = Spreading escapeOf out₀ at src out i k
+invariant-loop out₀ at src i₀ k₀ out i k = Spreading escape_of out₀ at src out i k
 
 abbrev decreases-loop : tie.decreases-loop
 decreases-loop out₀ at src i₀ k₀ out i k = length src - i
@@ -18,11 +18,11 @@ lay-bytes-spec =
     (tie.spec
     invariant-loop
     decreases-loop
-    (λ c. spreading-first _ _ _ _)
+    (λ c. spreading_first _ _ _ _)
     (λ c. search rules)
-    (λ c κs. spreading-room c.before.before.before.loop.invariant c.before.before.loop-test.true c.before.before.before.before.before.before.requires)
+    (λ c κs. spreading_room c.before.before.before.loop.invariant c.before.before.loop-test.true c.before.before.before.before.before.before.requires)
     (λ c. search rules)
     (λ c. search rules)
-    (λ c. spreading-more c.before.before.before.before.before.before.loop.invariant c.before.before.before.before.before.loop-test.true c.before.before.lay-byte.ensures)
+    (λ c. spreading_more c.before.before.before.before.before.before.loop.invariant c.before.before.before.before.before.loop-test.true c.before.before.lay-byte.ensures)
     (λ c. c.before.loop.invariant.size)
-    (λ c. spreading-end c.before.loop.invariant c.loop-test.false c.before.before.before.before.requires))
+    (λ c. spreading_end c.before.loop.invariant c.loop-test.false c.before.before.before.before.requires))

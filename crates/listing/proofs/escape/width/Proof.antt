@@ -1,4 +1,4 @@
-use Rattle.listing.specs.Line.{escapeOf}
+use Rattle.listing.specs.Line.{escape_of}
 use mathlib.Core.Path.{refl, sym, ◌∙◌}
 use native.Mathlib.Omega.{arith}
 use borrow.Author.Rules.{rules}
@@ -6,7 +6,7 @@ use Rattle.listing.proofs.escape.width.Statement.{statement}
 use Rattle.listing.proofs.escape.width.Tie as tie
 
 pub width_spec : {M : Type 1} → statement M
-unfolding escapeOf
+unfolding escape_of
 width_spec =
     tie.close
     (tie.spec

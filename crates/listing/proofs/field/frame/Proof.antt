@@ -1,5 +1,5 @@
-use Rattle.listing.proofs.LinesLaws.{then-all}
-use Rattle.listing.specs.Field.{itemLines}
+use Rattle.listing.proofs.LinesLaws.{then_all}
+use Rattle.listing.specs.Field.{item_lines}
 use borrow.Author.Rules.{rules}
 use Rattle.listing.proofs.field.frame.Statement.{statement}
 use Rattle.listing.proofs.field.frame.Tie as tie
@@ -12,4 +12,4 @@ frame-spec =
     (λ c κs. search rules)
     (λ c κs. search rules)
     (λ c. search rules)
-    (λ c. then-all (itemLines c.before.before.before.before.before.before.before.before.before.before.before.before.args.microphone c.before.before.before.before.before.before.before.before.before.before.before.before.args.header.time c.before.before.before.before.before.before.before.before.before.before.before.before.args.body.now 14) c.before.before.before.before.before.before.before.before.frame.ensures c.before.before.before.before.before.past.ensures c.before.before.items.ensures))
+    (λ c. then_all (item_lines c.before.before.before.before.before.before.before.before.before.before.before.before.args.microphone c.before.before.before.before.before.before.before.before.before.before.before.before.args.header.time c.before.before.before.before.before.before.before.before.before.before.before.before.args.body.now 14) c.before.before.before.before.before.before.before.before.frame.ensures c.before.before.before.before.before.past.ensures c.before.before.items.ensures))

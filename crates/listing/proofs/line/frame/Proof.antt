@@ -1,4 +1,4 @@
-use Rattle.text.proofs.ShortLaws.{front-is, front_length}
+use Rattle.text.proofs.ShortLaws.{front_is, front_length}
 use borrow.Author.Rules.{rules}
 use Rattle.listing.proofs.line.frame.Statement.{statement}
 use Rattle.listing.proofs.line.frame.Tie as tie
@@ -13,4 +13,4 @@ frame-spec =
     (λ c. front_length c.before.before.before.lay-frame.ensures)
     (λ c κs. search rules)
     (λ c. search rules)
-    (λ c. rw (← front-is c.before.before.before.before.before.before.lay-frame.ensures) c.before.before.put-bytes.ensures))
+    (λ c. rw (← front_is c.before.before.before.before.before.before.lay-frame.ensures) c.before.before.put-bytes.ensures))

@@ -1,5 +1,5 @@
-use Rattle.text.proofs.ShortLaws.{short-then, short-as}
-use Rattle.listing.specs.Line.{frameLine}
+use Rattle.text.proofs.ShortLaws.{short_then, short_as}
+use Rattle.listing.specs.Line.{frame_line}
 use mathlib.Core.Path.{refl}
 use native.Mathlib.Omega.{arith}
 use borrow.Author.Rules.{rules}
@@ -7,7 +7,7 @@ use Rattle.listing.proofs.line.lay_frame.Statement.{statement}
 use Rattle.listing.proofs.line.lay_frame.Tie as tie
 
 pub lay-frame-spec : {M : Type 1} → statement M
-unfolding frameLine
+unfolding frame_line
 lay-frame-spec =
     tie.close
     (tie.spec
@@ -21,4 +21,4 @@ lay-frame-spec =
     (λ c. search rules)
     (λ c κs. search rules)
     (λ c. search rules)
-    (λ c. short-as (short-then (short-then (short-then (short-then c.before.before.before.before.before.before.before.before.before.before.before.before.before.before.before.before.before.before.before.before.before.lay.ensures c.before.before.before.before.before.before.before.before.before.before.before.before.before.before.before.before.field.ensures) c.before.before.before.before.before.before.before.before.before.before.before.before.time.ensures) c.before.before.before.before.before.before.before.field2.ensures) c.before.before.lay2.ensures) refl (omega arith)))
+    (λ c. short_as (short_then (short_then (short_then (short_then c.before.before.before.before.before.before.before.before.before.before.before.before.before.before.before.before.before.before.before.before.before.lay.ensures c.before.before.before.before.before.before.before.before.before.before.before.before.before.before.before.before.field.ensures) c.before.before.before.before.before.before.before.before.before.before.before.before.time.ensures) c.before.before.before.before.before.before.before.field2.ensures) c.before.before.lay2.ensures) refl (omega arith)))

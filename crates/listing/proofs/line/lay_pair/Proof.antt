@@ -1,5 +1,5 @@
-use Rattle.text.proofs.ShortLaws.{short-then, short-as}
-use Rattle.listing.specs.Line.{pairLine}
+use Rattle.text.proofs.ShortLaws.{short_then, short_as}
+use Rattle.listing.specs.Line.{pair_line}
 use mathlib.Core.Path.{refl}
 use native.Mathlib.Omega.{arith}
 use borrow.Author.Rules.{rules}
@@ -7,7 +7,7 @@ use Rattle.listing.proofs.line.lay_pair.Statement.{statement}
 use Rattle.listing.proofs.line.lay_pair.Tie as tie
 
 pub lay-pair-spec : {M : Type 1} → statement M
-unfolding pairLine
+unfolding pair_line
 lay-pair-spec =
     tie.close
     (tie.spec
@@ -17,4 +17,4 @@ lay-pair-spec =
     (λ c. search rules)
     (λ c κs. search rules)
     (λ c. search rules)
-    (λ c. short-as (short-then (short-then (short-then c.before.before.before.before.before.before.before.before.before.before.before.before.before.before.before.lay.ensures c.before.before.before.before.before.before.before.before.before.before.before.field.ensures) c.before.before.before.before.before.before.before.field2.ensures) c.before.before.lay2.ensures) refl (omega arith)))
+    (λ c. short_as (short_then (short_then (short_then c.before.before.before.before.before.before.before.before.before.before.before.before.before.before.before.lay.ensures c.before.before.before.before.before.before.before.before.before.before.before.field.ensures) c.before.before.before.before.before.before.before.field2.ensures) c.before.before.lay2.ensures) refl (omega arith)))

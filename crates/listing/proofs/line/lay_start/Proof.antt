@@ -1,5 +1,5 @@
-use Rattle.text.proofs.ShortLaws.{short-then, short-as}
-use Rattle.listing.specs.Line.{startLine}
+use Rattle.text.proofs.ShortLaws.{short_then, short_as}
+use Rattle.listing.specs.Line.{start_line}
 use mathlib.Core.Path.{refl}
 use native.Mathlib.Omega.{arith}
 use borrow.Author.Rules.{rules}
@@ -7,7 +7,7 @@ use Rattle.listing.proofs.line.lay_start.Statement.{statement}
 use Rattle.listing.proofs.line.lay_start.Tie as tie
 
 pub lay-start-spec : {M : Type 1} → statement M
-unfolding startLine
+unfolding start_line
 lay-start-spec =
     tie.close
     (tie.spec
@@ -17,4 +17,4 @@ lay-start-spec =
     (λ c. search rules)
     (λ c κs. search rules)
     (λ c. search rules)
-    (λ c. short-as (short-then (short-then c.before.before.before.before.before.before.before.before.before.before.before.lay.ensures c.before.before.before.before.before.before.before.time.ensures) c.before.before.lay2.ensures) refl (omega arith)))
+    (λ c. short_as (short_then (short_then c.before.before.before.before.before.before.before.before.before.before.before.lay.ensures c.before.before.before.before.before.before.before.time.ensures) c.before.before.lay2.ensures) refl (omega arith)))

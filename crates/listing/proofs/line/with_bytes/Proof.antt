@@ -1,5 +1,5 @@
-use Rattle.text.proofs.ShortLaws.{short-then, short-wrote}
-use Rattle.listing.proofs.ItemLaws.{ended-length}
+use Rattle.text.proofs.ShortLaws.{short_then, short_wrote}
+use Rattle.listing.proofs.ItemLaws.{ended_length}
 use Rattle.codec.proofs.NumberLaws.{full}
 use native.Mathlib.Omega.{arith}
 use borrow.Author.Rules.{rules}
@@ -11,13 +11,13 @@ with-bytes-spec =
     tie.close
     (tie.spec
     (λ c. search rules)
-    (λ c. full (omega (arith, ended-length c.before.before.before.before.args.front.now c.before.before.before.before.args.src.now)))
-    (λ c. full (omega (arith, ended-length c.before.before.before.before.before.args.front.now c.before.before.before.before.before.args.src.now)))
+    (λ c. full (omega (arith, ended_length c.before.before.before.before.args.front.now c.before.before.before.before.args.src.now)))
+    (λ c. full (omega (arith, ended_length c.before.before.before.before.before.args.front.now c.before.before.before.before.before.args.src.now)))
     (λ c. search rules)
-    (λ c. full (omega (arith, ended-length c.before.before.before.before.before.before.args.front.now c.before.before.before.before.before.before.args.src.now)))
+    (λ c. full (omega (arith, ended_length c.before.before.before.before.before.before.args.front.now c.before.before.before.before.before.before.args.src.now)))
     (λ c κs. search rules)
     (λ c κs. search rules)
     (λ c. search rules)
     (λ c κs. search rules)
     (λ c. search rules)
-    (λ c. short-wrote (short-then (short-then c.before.before.before.before.before.before.before.before.before.before.before.lay.ensures c.before.before.before.before.before.before.before.bytes.ensures) c.before.before.lay2.ensures)))
+    (λ c. short_wrote (short_then (short_then c.before.before.before.before.before.before.before.before.before.before.before.lay.ensures c.before.before.before.before.before.before.before.bytes.ensures) c.before.before.lay2.ensures)))

@@ -1,10 +1,10 @@
-use Rattle.listing.specs.Line.{canText}
+use Rattle.listing.specs.Line.{can_text}
 use borrow.Author.Rules.{rules}
 use Rattle.listing.proofs.word.can.Statement.{statement}
 use Rattle.listing.proofs.word.can.Tie as tie
 
 pub can-spec : {M : Type 1} → statement M
-unfolding canText
+unfolding can_text
 can-spec =
     tie.close
     (tie.spec

@@ -1,11 +1,11 @@
-use Rattle.text.proofs.ShortLaws.{short-then}
-use Rattle.listing.specs.Line.{channelsText}
+use Rattle.text.proofs.ShortLaws.{short_then}
+use Rattle.listing.specs.Line.{channels_text}
 use borrow.Author.Rules.{rules}
 use Rattle.listing.proofs.word.channels.Statement.{statement}
 use Rattle.listing.proofs.word.channels.Tie as tie
 
 pub channels-spec : {M : Type 1} → statement M
-unfolding channelsText
+unfolding channels_text
 channels-spec =
     tie.close
     (tie.spec
@@ -16,4 +16,4 @@ channels-spec =
     (λ c. search rules)
     (λ c κs. search rules)
     (λ c. search rules)
-    (λ c. short-then (short-then c.before.before.before.before.before.before.before.before.before.before.before.before.lay.ensures c.before.before.before.before.before.before.before.shown.ensures) c.before.before.shown2.ensures))
+    (λ c. short_then (short_then c.before.before.before.before.before.before.before.before.before.before.before.before.lay.ensures c.before.before.before.before.before.before.before.shown.ensures) c.before.before.shown2.ensures))

@@ -1,5 +1,5 @@
-use Rattle.text.proofs.ShortLaws.{short-then, short-as}
-use Rattle.listing.specs.Line.{hexText}
+use Rattle.text.proofs.ShortLaws.{short_then, short_as}
+use Rattle.listing.specs.Line.{hex_text}
 use mathlib.Core.Path.{refl}
 use native.Mathlib.Omega.{arith}
 use borrow.Author.Rules.{rules}
@@ -7,7 +7,7 @@ use Rattle.listing.proofs.word.hex.Statement.{statement}
 use Rattle.listing.proofs.word.hex.Tie as tie
 
 pub hex-spec : {M : Type 1} → statement M
-unfolding hexText
+unfolding hex_text
 hex-spec =
     tie.close
     (tie.spec
@@ -15,4 +15,4 @@ hex-spec =
     (λ c κs. search rules)
     (λ c κs. search rules)
     (λ c. search rules)
-    (λ c. short-as (short-then c.before.before.before.before.before.before.lay.ensures c.before.before.fixed.ensures) refl (omega arith)))
+    (λ c. short_as (short_then c.before.before.before.before.before.before.lay.ensures c.before.before.fixed.ensures) refl (omega arith)))

@@ -1,5 +1,5 @@
-use Rattle.text.proofs.ShortLaws.{short-as}
-use Rattle.listing.specs.Line.{identText}
+use Rattle.text.proofs.ShortLaws.{short_as}
+use Rattle.listing.specs.Line.{ident_text}
 use mathlib.Core.Path.{sym, ap}
 use native.Mathlib.Omega.{arith}
 use borrow.Author.Rules.{rules}
@@ -23,12 +23,12 @@ ident-spec =
     (λ c. search rules)
     (λ c κs. search rules)
     (λ c. search rules)
-    (λ c. short-as c.before.before.can.ensures (sym (ap identText c.before.before.before.before.before.id.given.1)) (omega arith))
+    (λ c. short_as c.before.before.can.ensures (sym (ap ident_text c.before.before.before.before.before.id.given.1)) (omega arith))
     (λ c. search rules)
-    (λ c. short-as c.before.before.hex.ensures (sym (ap identText c.before.before.before.before.before.id2.given.1)) (omega arith))
+    (λ c. short_as c.before.before.hex.ensures (sym (ap ident_text c.before.before.before.before.before.id2.given.1)) (omega arith))
     (λ c. search rules)
-    (λ c. short-as c.before.before.flexray.ensures (sym (ap identText c.before.before.before.before.before.id3.given.1)) (omega arith))
+    (λ c. short_as c.before.before.flexray.ensures (sym (ap ident_text c.before.before.before.before.before.id3.given.1)) (omega arith))
     (λ c. search rules)
-    (λ c. short-as c.before.before.error.ensures (sym (ap identText c.before.before.before.before.before.id4.given.1)) (omega arith))
+    (λ c. short_as c.before.before.error.ensures (sym (ap ident_text c.before.before.before.before.before.id4.given.1)) (omega arith))
     (λ c. search rules)
-    (λ c. short-as c.before.before.lay.ensures (sym (ap identText c.before.before.before.before.before.enum_told.given.1)) (omega arith)))
+    (λ c. short_as c.before.before.lay.ensures (sym (ap ident_text c.before.before.before.before.before.enum_told.given.1)) (omega arith)))

@@ -1,5 +1,5 @@
 use mathlib.Core.Path.{sym, ap, ◌∙◌}
-use Rattle.listing.specs.Line.{isFd}
+use Rattle.listing.specs.Line.{is_fd}
 use borrow.Author.Rules.{rules}
 use Rattle.listing.proofs.word.is_fd.Statement.{statement}
 use Rattle.listing.proofs.word.is_fd.Tie as tie
@@ -14,7 +14,7 @@ is-fd-spec =
     (λ c. search rules)
     (λ c. search rules)
     (λ c. search rules)
-    (λ c. c.can-fd.ensures ∙ sym (ap isFd c.before.before.id.given.1))
+    (λ c. c.can-fd.ensures ∙ sym (ap is_fd c.before.before.id.given.1))
     (λ c. search rules)
     (λ c. search rules)
     (λ c. search rules)

@@ -1,4 +1,4 @@
-use Rattle.text.proofs.ShortLaws.{short-put}
+use Rattle.text.proofs.ShortLaws.{short_put}
 use borrow.Author.Rules.{rules}
 use native.Mathlib.Omega.{arith}
 use Rattle.listing.proofs.word.lay.Statement.{statement}
@@ -11,4 +11,4 @@ lay-spec =
     (λ c κs. search rules)
     (λ c. search rules)
     (λ c. search rules)
-    (λ c. short-put _ c.before.before.put-bytes.ensures c.before.before.before.before.before.before.requires (omega arith)))
+    (λ c. short_put _ c.before.before.put-bytes.ensures c.before.before.before.before.before.before.requires (omega arith)))

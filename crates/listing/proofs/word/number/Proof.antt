@@ -1,5 +1,5 @@
-use Rattle.text.proofs.ShortLaws.{put_next, put-nothing}
-use Rattle.text.proofs.PutLaws.{decimal-length}
+use Rattle.text.proofs.ShortLaws.{put_next, put_nothing}
+use Rattle.text.proofs.PutLaws.{decimal_length}
 use borrow.Author.Rules.{rules}
 use Rattle.listing.proofs.word.number.Statement.{statement}
 use Rattle.listing.proofs.word.number.Tie as tie
@@ -12,6 +12,6 @@ number-spec =
     (λ c. search rules)
     (λ c. search rules)
     (λ c. search rules)
-    (λ c. put_next 20 c.before.before.before.before.before.decimal.ensures (decimal-length _) c.before.before.before.before.before.before.before.before.requires c.before.next.given.1)
+    (λ c. put_next 20 c.before.before.before.before.before.decimal.ensures (decimal_length _) c.before.before.before.before.before.before.before.before.requires c.before.next.given.1)
     (λ c. search rules)
-    (λ c. put-nothing 20 c.before.before.before.before.decimal.ensures (decimal-length _) c.before.before.before.before.before.before.before.requires c.enum_told.given.1))
+    (λ c. put_nothing 20 c.before.before.before.before.decimal.ensures (decimal_length _) c.before.before.before.before.before.before.before.requires c.enum_told.given.1))

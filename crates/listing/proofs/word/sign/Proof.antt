@@ -1,9 +1,9 @@
 use mathlib.Core.Path.{◌≡◌, refl, sym}
 use mathlib.Core.List.{[], ◌∷◌}
 use native.Mathlib.Omega.{arith}
-use Rattle.text.proofs.ShortLaws.{short-as}
-use Rattle.listing.specs.Line.{signText}
-use Rattle.listing.proofs.SignLaws.{when-below, when-not}
+use Rattle.text.proofs.ShortLaws.{short_as}
+use Rattle.listing.specs.Line.{sign_text}
+use Rattle.listing.proofs.SignLaws.{when_below, when_not}
 use borrow.Author.Rules.{rules}
 use Rattle.listing.proofs.word.sign.Statement.{statement}
 use Rattle.listing.proofs.word.sign.Tie as tie
@@ -15,8 +15,8 @@ sign-spec =
     (λ c. search rules)
     (λ c κs. search rules)
     (λ c. search rules)
-    (λ c. short-as c.before.before.lay.ensures (when-below (λ z. 32 ∷ 45 ∷ [] ≡ signText z) c.before.before.before.before.before.before.before.ranges.n c.before.before.before.before.before.if1.true (λ a h. refl)) (omega arith))
+    (λ c. short_as c.before.before.lay.ensures (when_below (λ z. 32 ∷ 45 ∷ [] ≡ sign_text z) c.before.before.before.before.before.before.before.ranges.n c.before.before.before.before.before.if1.true (λ a h. refl)) (omega arith))
     (λ c. search rules)
     (λ c κs. search rules)
     (λ c. search rules)
-    (λ c. short-as c.before.before.lay2.ensures (when-not (λ z. 32 ∷ [] ≡ signText z) c.before.before.before.before.before.before.before.ranges.n c.before.before.before.before.before.if1.false (λ a h. refl)) (omega arith)))
+    (λ c. short_as c.before.before.lay2.ensures (when_not (λ z. 32 ∷ [] ≡ sign_text z) c.before.before.before.before.before.before.before.ranges.n c.before.before.before.before.before.if1.false (λ a h. refl)) (omega arith)))

@@ -1,5 +1,5 @@
-use Rattle.text.proofs.ShortLaws.{short-as}
-use Rattle.listing.specs.Line.{stateText}
+use Rattle.text.proofs.ShortLaws.{short_as}
+use Rattle.listing.specs.Line.{state_text}
 use mathlib.Core.Path.{sym, ap}
 use native.Mathlib.Omega.{arith}
 use borrow.Author.Rules.{rules}
@@ -17,6 +17,6 @@ state-spec =
     (λ c. search rules)
     (λ c κs. search rules)
     (λ c. search rules)
-    (λ c. short-as c.before.before.hex.ensures (sym (ap stateText c.before.before.before.before.before.s.given.1)) (omega arith))
+    (λ c. short_as c.before.before.hex.ensures (sym (ap state_text c.before.before.before.before.before.s.given.1)) (omega arith))
     (λ c. search rules)
-    (λ c. short-as c.before.before.lay.ensures (sym (ap stateText c.before.before.before.before.before.enum_told.given.1)) (omega arith)))
+    (λ c. short_as c.before.before.lay.ensures (sym (ap state_text c.before.before.before.before.before.enum_told.given.1)) (omega arith)))

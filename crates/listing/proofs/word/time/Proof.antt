@@ -1,5 +1,5 @@
-use Rattle.text.proofs.ShortLaws.{short-then, short-as}
-use Rattle.listing.specs.Line.{timeText}
+use Rattle.text.proofs.ShortLaws.{short_then, short_as}
+use Rattle.listing.specs.Line.{time_text}
 use mathlib.Core.Path.{refl}
 use native.Mathlib.Omega.{arith}
 use borrow.Author.Rules.{rules}
@@ -7,7 +7,7 @@ use Rattle.listing.proofs.word.time.Statement.{statement}
 use Rattle.listing.proofs.word.time.Tie as tie
 
 pub time-spec : {M : Type 1} → statement M
-unfolding timeText
+unfolding time_text
 time-spec =
     tie.close
     (tie.spec
@@ -17,4 +17,4 @@ time-spec =
     (λ c. search rules)
     (λ c κs. search rules)
     (λ c. search rules)
-    (λ c. short-as (short-then (short-then c.before.before.before.before.before.before.before.before.before.before.before.before.field.ensures c.before.before.before.before.before.before.before.lay.ensures) c.before.before.fixed.ensures) refl (omega arith)))
+    (λ c. short_as (short_then (short_then c.before.before.before.before.before.before.before.before.before.before.before.before.field.ensures c.before.before.before.before.before.before.before.lay.ensures) c.before.before.fixed.ensures) refl (omega arith)))

@@ -1,12 +1,12 @@
 use mathlib.Core.Path.{sym, ◌∙◌}
-use Rattle.mending.specs.Check.{restText}
+use Rattle.mending.specs.Check.{rest_text}
 use borrow.Author.Tests.{eq-eqb, ne_eqb}
 use borrow.Author.Rules.{rules}
 use Rattle.mending.proofs.check.rest.Statement.{statement}
 use Rattle.mending.proofs.check.rest.Tie as tie
 
 pub rest-spec : {M : Type 1} → statement M
-unfolding restText
+unfolding rest_text
 rest-spec =
     tie.close
     (tie.spec

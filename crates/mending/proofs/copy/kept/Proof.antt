@@ -1,4 +1,4 @@
-use Rattle.mending.proofs.HoldLaws.{kept-is}
+use Rattle.mending.proofs.HoldLaws.{kept_is}
 use borrow.Author.Rules.{rules}
 use Rattle.mending.proofs.copy.kept.Statement.{statement}
 use Rattle.mending.proofs.copy.kept.Tie as tie
@@ -9,4 +9,4 @@ kept-spec =
     (tie.spec
     (λ c κs. search rules)
     (λ c κs. search rules)
-    (λ c. kept-is _ _ c.before.size.ensures c.front.ensures))
+    (λ c. kept_is _ _ c.before.size.ensures c.front.ensures))

@@ -1,11 +1,11 @@
-use Rattle.text.proofs.ShortLaws.{short-then, front-is, front_length}
-use Rattle.mending.specs.Check.{pairLine}
+use Rattle.text.proofs.ShortLaws.{short_then, front_is, front_length}
+use Rattle.mending.specs.Check.{pair_line}
 use borrow.Author.Rules.{rules}
 use Rattle.mending.proofs.word.pair.Statement.{statement}
 use Rattle.mending.proofs.word.pair.Tie as tie
 
 pub pair_spec : {M : Type 1} → statement M
-unfolding pairLine
+unfolding pair_line
 pair_spec =
     tie.close
     (tie.spec
@@ -15,7 +15,7 @@ pair_spec =
     (λ c. search rules)
     (λ c κs. search rules)
     (λ c. search rules)
-    (λ c. front_length (short-then c.before.before.before.before.before.before.before.two.ensures c.before.before.before.lay.ensures))
+    (λ c. front_length (short_then c.before.before.before.before.before.before.before.two.ensures c.before.before.before.lay.ensures))
     (λ c κs. search rules)
     (λ c. search rules)
-    (λ c. rw (← front-is (short-then c.before.before.before.before.before.before.before.before.before.before.two.ensures c.before.before.before.before.before.before.lay.ensures)) c.before.before.put-bytes.ensures))
+    (λ c. rw (← front_is (short_then c.before.before.before.before.before.before.before.before.before.before.two.ensures c.before.before.before.before.before.before.lay.ensures)) c.before.before.put-bytes.ensures))

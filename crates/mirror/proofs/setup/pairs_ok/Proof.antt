@@ -1,7 +1,7 @@
 use mathlib.Core.Path.{◌≡◌, refl, sym, ◌∙◌}
 use Prim.Native.Nat.{◌-◌, ◌≤◌}
 use lib.ListN.{length, drop}
-use Rattle.mirror.specs.Setup.{pairsOk}
+use Rattle.mirror.specs.Setup.{pairs_ok}
 use Rattle.mirror.proofs.MirrorLaws.{pairs-bad, pairs-again, pairs_next, pairs_end}
 use borrow.Author.Tests.{not-true, not-false}
 use borrow.Author.Rules.{rules}
@@ -10,7 +10,7 @@ use Rattle.mirror.proofs.setup.pairs_ok.Statement.{statement}
 use Rattle.mirror.proofs.setup.pairs_ok.Tie as tie
 
 abbrev invariant-loop : tie.invariant-loop
-invariant-loop pairs n i₀ i = (i ≤ length pairs) × (pairsOk pairs ≡ pairsOk (drop i pairs))
+invariant-loop pairs n i₀ i = (i ≤ length pairs) × (pairs_ok pairs ≡ pairs_ok (drop i pairs))
 
 abbrev decreases-loop : tie.decreases-loop
 decreases-loop pairs n i₀ i = length pairs - i

@@ -1,10 +1,10 @@
-use Rattle.mirror.specs.Setup.{sourceNumbered}
+use Rattle.mirror.specs.Setup.{source_numbered}
 use borrow.Author.Rules.{rules}
 use Rattle.mirror.proofs.setup.source_numbered.Statement.{statement}
 use Rattle.mirror.proofs.setup.source_numbered.Tie as tie
 
 pub source-numbered-spec : {M : Type 1} → statement M
-unfolding sourceNumbered
+unfolding source_numbered
 source-numbered-spec = tie.close (tie.spec
     (λ c κs. search rules)
     (λ c κs. search rules)

@@ -1,5 +1,5 @@
 use mathlib.Core.Path.{sym, ap}
-use Rattle.reader.specs.Answer.{judgedHeader}
+use Rattle.reader.specs.Answer.{judged_header}
 use borrow.Author.Rules.{rules}
 use Rattle.reader.proofs.answer.judged_header.Statement.{statement}
 use Rattle.reader.proofs.answer.judged_header.Tie as tie
@@ -11,4 +11,4 @@ judged-header-spec =
     (λ c. search rules)
     (λ c. search rules)
     (λ c. search rules)
-    (λ c. sym (ap judgedHeader c.enum_told.given.1)))
+    (λ c. sym (ap judged_header c.enum_told.given.1)))

@@ -1,8 +1,8 @@
 use mathlib.Core.Path.{sym, ◌∙◌}
 use Prim.Native.Nat.{◌-◌}
 use lib.ListN.{length}
-use Rattle.reader.proofs.FrameLaws.{Left, left-first, left-item, left-last, not-bad}
-use Rattle.codec.proofs.Inverse.{read-room}
+use Rattle.reader.proofs.FrameLaws.{Left, left_first, left_item, left_last, not-bad}
+use Rattle.codec.proofs.Inverse.{read_room}
 use Rattle.codec.proofs.Stands.{bytes_of}
 use borrow.Author.Rules.{rules}
 use native.Mathlib.Omega.{arith}
@@ -21,7 +21,7 @@ rewrite-items-spec =
     (tie.spec
     invariant-loop
     decreases-loop
-    (λ c. left-first _ _ _ c.before.before.requires.0 c.before.before.requires.1.1)
+    (λ c. left_first _ _ _ c.before.before.requires.0 c.before.before.requires.1.1)
     (λ c κs. search rules)
     (λ c. search rules)
     (λ c. search rules)
@@ -29,9 +29,9 @@ rewrite-items-spec =
     (λ c. not-bad _ _ c.before.before.before.before.loop.invariant.clean c.before.before.before.loop-test.true (sym c.before.before.read-item.ensures ∙ c.enum_told.given.1))
     (λ c κs. search rules)
     (λ c κs. search rules)
-    (λ c. let r = read-room _ _ (sym c.before.before.before.before.before.before.before.before.read-item.ensures ∙ c.before.before.before.before.before.before.item.given.1) in omega arith)
+    (λ c. let r = read_room _ _ (sym c.before.before.before.before.before.before.before.before.read-item.ensures ∙ c.before.before.before.before.before.before.item.given.1) in omega arith)
     (λ c.
-    left-item _ c.before.before.before.before.before.before.before.before.before.before.loop.invariant c.before.before.before.before.before.before.before.before.before.loop-test.true c.before.before.before.before.before.before.before.before.before.before.before.before.before.requires.1.0 (bytes_of c.before.before.before.before.before.before.before.before.before.before.before.before.before.args.frame.now (λ i h. omega (arith, c.before.before.before.before.before.before.before.before.before.before.before.before.shared-slice-known.given i)))
+    left_item _ c.before.before.before.before.before.before.before.before.before.before.loop.invariant c.before.before.before.before.before.before.before.before.before.loop-test.true c.before.before.before.before.before.before.before.before.before.before.before.before.before.requires.1.0 (bytes_of c.before.before.before.before.before.before.before.before.before.before.before.before.before.args.frame.now (λ i h. omega (arith, c.before.before.before.before.before.before.before.before.before.before.before.before.shared-slice-known.given i)))
     (sym c.before.before.before.before.before.before.before.before.read-item.ensures ∙ c.before.before.before.before.before.before.item.given.1) c.before.before.before.part_at.ensures c.before.before.write-item.ensures)
     (λ c. c.before.loop.invariant.len)
-    (λ c. left-last c.before.loop.invariant c.loop-test.false))
+    (λ c. left_last c.before.loop.invariant c.loop-test.false))

@@ -1,5 +1,5 @@
 use mathlib.Core.Path.{sym, ap}
-use Rattle.reader.specs.Frame.{judgedBy}
+use Rattle.reader.specs.Frame.{judged_by}
 use borrow.Author.Rules.{rules}
 use Rattle.reader.proofs.frame.judged_by.Statement.{statement}
 use Rattle.reader.proofs.frame.judged_by.Tie as tie
@@ -10,5 +10,5 @@ judged-by-spec =
     (tie.spec
     (λ c. search rules)
     (λ c. search rules)
-    (λ c. sym (ap (judgedBy _) c.enum_told.given.1))
-    (λ c. sym (ap (judgedBy _) c.before.r.given.1)))
+    (λ c. sym (ap (judged_by _) c.enum_told.given.1))
+    (λ c. sym (ap (judged_by _) c.before.r.given.1)))

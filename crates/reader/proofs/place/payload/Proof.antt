@@ -1,11 +1,11 @@
 use mathlib.Core.Path.{sym, ◌∙◌}
-use Rattle.reader.specs.Frame.{payloadOf}
+use Rattle.reader.specs.Frame.{payload_of}
 use borrow.Author.Rules.{rules}
 use Rattle.reader.proofs.place.payload.Statement.{statement}
 use Rattle.reader.proofs.place.payload.Tie as tie
 
 pub payload-spec : {M : Type 1} → statement M
-unfolding payloadOf
+unfolding payload_of
 payload-spec =
     tie.close
     (tie.spec

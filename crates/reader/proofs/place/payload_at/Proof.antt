@@ -1,11 +1,11 @@
 use mathlib.Core.Path.{sym, ◌∙◌}
-use Rattle.reader.specs.Frame.{payloadAtOf}
+use Rattle.reader.specs.Frame.{payload_at_of}
 use borrow.Author.Rules.{rules}
 use Rattle.reader.proofs.place.payload_at.Statement.{statement}
 use Rattle.reader.proofs.place.payload_at.Tie as tie
 
 pub payload-at-spec : {M : Type 1} → statement M
-unfolding payloadAtOf
+unfolding payload_at_of
 payload-at-spec =
     tie.close
     (tie.spec

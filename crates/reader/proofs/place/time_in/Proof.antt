@@ -1,10 +1,10 @@
-use Rattle.reader.specs.Frame.{timeIn}
+use Rattle.reader.specs.Frame.{time_in}
 use borrow.Author.Rules.{rules}
 use Rattle.reader.proofs.place.time_in.Statement.{statement}
 use Rattle.reader.proofs.place.time_in.Tie as tie
 
 pub time-in-spec : {M : Type 1} → statement M
-unfolding timeIn
+unfolding time_in
 time-in-spec =
     tie.close
     (tie.spec

@@ -1,5 +1,5 @@
 use mathlib.Core.Path.{sym, ◌∙◌}
-use Rattle.recording.proofs.FieldLaws.{frame-long, frame-good, frame-bad}
+use Rattle.recording.proofs.FieldLaws.{frame_long, frame_good, frame_bad}
 use native.Mathlib.Omega.{arith}
 use borrow.Author.Rules.{rules}
 use Rattle.recording.proofs.field.frame.Statement.{statement}
@@ -9,10 +9,10 @@ pub frame-spec : {M : Type 1} → statement M
 frame-spec =
     tie.close
     (tie.spec
-    (λ c. frame-long _ _ (omega arith))
+    (λ c. frame_long _ _ (omega arith))
     (λ c κs. search rules)
     (λ c. search rules)
     (λ c. search rules)
     (λ c κs. search rules)
-    (λ c. frame-good _ _ (omega arith) (sym c.before.before.before.judge.ensures ∙ c.before.h.given.1))
-    (λ c. rw c.number_of_lem.ensures (frame-bad _ _ (omega arith) (sym c.before.before.before.before.judge.ensures ∙ c.before.before.why.given.1))))
+    (λ c. frame_good _ _ (omega arith) (sym c.before.before.before.judge.ensures ∙ c.before.h.given.1))
+    (λ c. rw c.number_of_lem.ensures (frame_bad _ _ (omega arith) (sym c.before.before.before.before.judge.ensures ∙ c.before.before.why.given.1))))

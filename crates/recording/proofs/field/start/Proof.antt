@@ -1,4 +1,4 @@
-use Rattle.recording.proofs.FieldLaws.{start-size, start-nanos, start-good}
+use Rattle.recording.proofs.FieldLaws.{start_size, start_nanos, start_good}
 use native.Mathlib.Omega.{arith}
 use borrow.Author.Rules.{rules}
 use Rattle.recording.proofs.field.start.Statement.{statement}
@@ -8,7 +8,7 @@ pub start_spec : {M : Type 1} → statement M
 start_spec =
     tie.close
     (tie.spec
-    (λ c. start-size _ _ c.if1.true)
+    (λ c. start_size _ _ c.if1.true)
     (λ c κs. search rules)
-    (λ c. start-nanos _ _ (omega (arith, c.before.before.before.if1.false)) c.before.before.start-in.ensures c.if2.true)
-    (λ c. start-good _ _ (omega (arith, c.before.before.before.if1.false)) c.before.before.start-in.ensures c.if2.false))
+    (λ c. start_nanos _ _ (omega (arith, c.before.before.before.if1.false)) c.before.before.start-in.ensures c.if2.true)
+    (λ c. start_good _ _ (omega (arith, c.before.before.before.if1.false)) c.before.before.start-in.ensures c.if2.false))

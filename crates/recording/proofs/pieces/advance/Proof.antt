@@ -1,5 +1,5 @@
 use mathlib.Core.Path.{◌∙◌, ap}
-use Rattle.recording.specs.Pieces.{next_of, keptOf, place_of, headedOf, usedOf, endsOf}
+use Rattle.recording.specs.Pieces.{next_of, kept_of, place_of, headed_of, used_of, ends_of}
 use Prim.Native.Nat.{ℕ}
 use mathlib.Core.List.{List}
 use lib.ListN.{length}
@@ -9,7 +9,7 @@ use Rattle.recording.proofs.pieces.advance.Statement.{statement}
 use Rattle.recording.proofs.pieces.advance.Tie as tie
 
 pub advance-spec : {M : Type 1} → statement M
-unfolding next_of keptOf place_of
+unfolding next_of kept_of place_of
 advance-spec =
     tie.close
     (tie.spec
@@ -20,6 +20,6 @@ advance-spec =
     (λ c κs. search rules)
     (λ c. search rules)
     (λ c.
-    let p = c.before.before.before.before.before.before.before.headed.ensures ∙ ap (λ (q : Place). headedOf q c.before.before.before.before.before.before.before.before.before.before.before.args.piece.now) c.before.before.before.before.before.before.before.before.sound.ensures in
+    let p = c.before.before.before.before.before.before.before.headed.ensures ∙ ap (λ (q : Place). headed_of q c.before.before.before.before.before.before.before.before.before.before.before.args.piece.now) c.before.before.before.before.before.before.before.before.sound.ensures in
     let b = rw p at c.before.before.before.before.before.keep.ensures in
-    (rw (c.before.before.used.ensures, p) at c.ends.ensures ∙ ap (λ (l : List ℕ). endsOf (place_of c.before.before.before.before.before.before.before.before.before.before.before.args.place c.before.before.before.before.before.before.before.before.before.before.before.args.piece.now) (usedOf (place_of c.before.before.before.before.before.before.before.before.before.before.before.args.place c.before.before.before.before.before.before.before.before.before.before.before.args.piece.now) (length c.before.before.before.before.before.before.before.before.before.before.before.args.piece.now)) l) b, b)))
+    (rw (c.before.before.used.ensures, p) at c.ends.ensures ∙ ap (λ (l : List ℕ). ends_of (place_of c.before.before.before.before.before.before.before.before.before.before.before.args.place c.before.before.before.before.before.before.before.before.before.before.before.args.piece.now) (used_of (place_of c.before.before.before.before.before.before.before.before.before.before.before.args.place c.before.before.before.before.before.before.before.before.before.before.before.args.piece.now) (length c.before.before.before.before.before.before.before.before.before.before.before.args.piece.now)) l) b, b)))

@@ -1,5 +1,5 @@
 use mathlib.Core.Path.{sym, ◌∙◌}
-use Rattle.recording.proofs.PlaceLaws.{ends_more, ends-done}
+use Rattle.recording.proofs.PlaceLaws.{ends_more, ends_done}
 use native.Mathlib.Omega.{arith}
 use borrow.Author.Rules.{rules}
 use Rattle.recording.proofs.pieces.ends.Statement.{statement}
@@ -12,10 +12,10 @@ ends-spec =
     (λ c κs. search rules)
     (λ c κs. search rules)
     (λ c κs. search rules)
-    (λ c. rw c.before.found.ensures at c.done.ensures ∙ sym (ends-done _ _ _ (omega (arith, c.before.before.before.type_size.ensures.is))))
+    (λ c. rw c.before.found.ensures at c.done.ensures ∙ sym (ends_done _ _ _ (omega (arith, c.before.before.before.type_size.ensures.is))))
     (λ c. search rules)
     (λ c κs. search rules)
     (λ c κs. search rules)
-    (λ c. rw c.before.found2.ensures at c.done2.ensures ∙ sym (ends-done _ _ _ (omega (arith, c.before.before.before.before.type_size.ensures.is))))
+    (λ c. rw c.before.found2.ensures at c.done2.ensures ∙ sym (ends_done _ _ _ (omega (arith, c.before.before.before.before.type_size.ensures.is))))
     (λ c. search rules)
     (λ c. sym (ends_more _ _ _ (omega (arith, c.before.before.type_size.ensures.is)))))

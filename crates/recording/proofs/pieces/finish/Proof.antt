@@ -1,5 +1,5 @@
 use mathlib.Core.Path.{sym, ◌∙◌, ap}
-use Rattle.recording.proofs.PlaceLaws.{finish-none, finish-inside}
+use Rattle.recording.proofs.PlaceLaws.{finish_none, finish_inside}
 use Rattle.recording.specs.declared.pieces.Place.{Place}
 use borrow.Author.Rules.{rules}
 use Rattle.recording.proofs.pieces.finish.Statement.{statement}
@@ -10,5 +10,5 @@ finish_spec =
     tie.close
     (tie.spec
     (λ c κs. search rules)
-    (λ c. finish-none _ (sym (ap (λ (p : Place). p.past) c.before.before.sound.ensures) ∙ c.if1.true))
-    (λ c. finish-inside _ (λ z. c.if1.false (ap (λ (p : Place). p.past) c.before.before.sound.ensures ∙ z))))
+    (λ c. finish_none _ (sym (ap (λ (p : Place). p.past) c.before.before.sound.ensures) ∙ c.if1.true))
+    (λ c. finish_inside _ (λ z. c.if1.false (ap (λ (p : Place). p.past) c.before.before.sound.ensures ∙ z))))

@@ -1,11 +1,11 @@
 use mathlib.Core.Path.{◌∙◌}
-use Rattle.recording.specs.Pieces.{foundOf}
+use Rattle.recording.specs.Pieces.{found_of}
 use borrow.Author.Rules.{rules}
 use Rattle.recording.proofs.pieces.found.Statement.{statement}
 use Rattle.recording.proofs.pieces.found.Tie as tie
 
 pub found-spec : {M : Type 1} → statement M
-unfolding foundOf
+unfolding found_of
 found-spec =
     tie.close
     (tie.spec

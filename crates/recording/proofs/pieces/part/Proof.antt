@@ -1,4 +1,4 @@
-use Rattle.recording.proofs.PlaceLaws.{part_none, part-is, used-most}
+use Rattle.recording.proofs.PlaceLaws.{part_none, part_is, used_most}
 use native.Mathlib.Omega.{arith}
 use lib.ListN.{length}
 use borrow.Author.Rules.{rules}
@@ -15,5 +15,5 @@ part-spec =
     (λ c. part_none _ _ c.before.before.before.used.ensures c.before.before.head-left.ensures c.before.if1.true)
     (λ c. search rules)
     (λ c. search rules)
-    (λ c. omega (arith, c.before.before.used.ensures, used-most c.before.before.before.before.args.p (length c.before.before.before.before.args.piece.now)))
-    (λ c. part-is _ _ c.before.before.before.used.ensures c.before.before.head-left.ensures))
+    (λ c. omega (arith, c.before.before.used.ensures, used_most c.before.before.before.before.args.p (length c.before.before.before.before.args.piece.now)))
+    (λ c. part_is _ _ c.before.before.before.used.ensures c.before.before.head-left.ensures))

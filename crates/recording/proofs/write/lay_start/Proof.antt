@@ -1,4 +1,4 @@
-use Rattle.recording.proofs.WriteLaws.{start-laid}
+use Rattle.recording.proofs.WriteLaws.{start_laid}
 use borrow.Author.Rules.{rules}
 use Rattle.recording.proofs.write.lay_start.Statement.{statement}
 use Rattle.recording.proofs.write.lay_start.Tie as tie
@@ -11,4 +11,4 @@ lay-start-spec =
     (λ c. search rules)
     (λ c κs. search rules)
     (λ c. search rules)
-    (λ c. start-laid _ c.before.before.before.before.before.before.before.before.before.before.requires c.before.before.before.before.before.before.before.put-be.ensures c.before.before.put-be2.ensures))
+    (λ c. start_laid _ c.before.before.before.before.before.before.before.before.before.before.requires c.before.before.before.before.before.before.before.put-be.ensures c.before.before.put-be2.ensures))

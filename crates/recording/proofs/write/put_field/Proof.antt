@@ -1,6 +1,6 @@
 use mathlib.Core.Path.{◌∙◌}
 use lib.ListN.{length-set}
-use Rattle.recording.proofs.WriteLaws.{field-full, field-laid}
+use Rattle.recording.proofs.WriteLaws.{field_full, field_laid}
 use native.Mathlib.Omega.{arith}
 use borrow.Author.Rules.{rules}
 use Rattle.recording.proofs.write.put_field.Statement.{statement}
@@ -10,10 +10,10 @@ pub put-field-spec : {M : Type 1} → statement M
 put-field-spec =
     tie.close
     (tie.spec
-    (λ c. field-full _ _ (omega arith))
-    (λ c. field-full _ _ (omega arith))
+    (λ c. field_full _ _ (omega arith))
+    (λ c. field_full _ _ (omega arith))
     (λ c. search rules)
-    (λ c. field-full _ _ (omega arith))
+    (λ c. field_full _ _ (omega arith))
     (λ c. search rules)
     (λ c. search rules)
     (λ c κs. search rules)
@@ -21,4 +21,4 @@ put-field-spec =
     (λ c κs. search rules)
     (λ c. search rules)
     (λ c. c.before.before.put-bytes.auto.0 ∙ c.before.before.before.before.before.before.put-be.auto.0 ∙ simp length-set)
-    (λ c. field-laid _ _ c.before.before.before.before.before.before.put-be.ensures c.before.before.put-bytes.ensures (omega arith)))
+    (λ c. field_laid _ _ c.before.before.before.before.before.before.put-be.ensures c.before.before.put-bytes.ensures (omega arith)))

@@ -1,5 +1,5 @@
 use mathlib.Core.Path.{sym, ◌∙◌}
-use Rattle.recording.proofs.WriteLaws.{not-recorded, recorded-as, start-out, start-in-range}
+use Rattle.recording.proofs.WriteLaws.{not_recorded, recorded_as, start_out, start_in_range}
 use borrow.Author.Tests.{not-true, not-false}
 use native.Mathlib.Omega.{arith}
 use borrow.Author.Rules.{rules}
@@ -11,10 +11,10 @@ start_spec =
     tie.close
     (tie.spec
     (λ c κs. search rules)
-    (λ c. not-recorded (start-out _ (sym c.before.in-range.ensures ∙ not-true _ c.if1.true)) (λ z. omega arith))
+    (λ c. not_recorded (start_out _ (sym c.before.in-range.ensures ∙ not-true _ c.if1.true)) (λ z. omega arith))
     (λ c. search rules)
     (λ c κs. search rules)
     (λ c. search rules)
     (λ c κs. search rules)
     (λ c. search rules)
-    (λ c. recorded-as (start-in-range _ (sym c.before.before.before.before.before.before.before.before.before.in-range.ensures ∙ not-false _ c.before.before.before.before.before.before.before.before.if1.false)) (rw c.before.before.before.before.before.before.lay-start.ensures at c.before.before.put-field.ensures)))
+    (λ c. recorded_as (start_in_range _ (sym c.before.before.before.before.before.before.before.before.before.in-range.ensures ∙ not-false _ c.before.before.before.before.before.before.before.before.if1.false)) (rw c.before.before.before.before.before.before.lay-start.ensures at c.before.before.put-field.ensures)))

@@ -1,11 +1,11 @@
-use Rattle.text.proofs.ShortLaws.{short-then}
-use Rattle.script.specs.Answer.{errorText}
+use Rattle.text.proofs.ShortLaws.{short_then}
+use Rattle.script.specs.Answer.{error_text}
 use borrow.Author.Rules.{rules}
 use Rattle.script.proofs.answer.error.Statement.{statement}
 use Rattle.script.proofs.answer.error.Tie as tie
 
 pub error-spec : {M : Type 1} → statement M
-unfolding errorText
+unfolding error_text
 error-spec =
     tie.close
     (tie.spec
@@ -13,4 +13,4 @@ error-spec =
     (λ c. search rules)
     (λ c κs. search rules)
     (λ c. search rules)
-    (λ c. short-then c.before.before.before.before.before.before.before.field.ensures c.before.before.lay.ensures))
+    (λ c. short_then c.before.before.before.before.before.before.before.field.ensures c.before.before.lay.ensures))

@@ -1,6 +1,6 @@
 use mathlib.Core.Path.{sym, ap}
-use Rattle.text.proofs.ShortLaws.{short-as}
-use Rattle.script.specs.Answer.{identText}
+use Rattle.text.proofs.ShortLaws.{short_as}
+use Rattle.script.specs.Answer.{ident_text}
 use borrow.Author.Rules.{rules}
 use native.Mathlib.Omega.{arith}
 use Rattle.script.proofs.answer.ident.Statement.{statement}
@@ -24,12 +24,12 @@ ident-spec =
     (λ c. search rules)
     (λ c κs. search rules)
     (λ c. search rules)
-    (λ c. short-as c.before.before.field.ensures (sym (ap identText c.before.before.before.before.before.id.given.1)) (omega arith))
+    (λ c. short_as c.before.before.field.ensures (sym (ap ident_text c.before.before.before.before.before.id.given.1)) (omega arith))
     (λ c. search rules)
-    (λ c. short-as c.before.before.field2.ensures (sym (ap identText c.before.before.before.before.before.id2.given.1)) (omega arith))
+    (λ c. short_as c.before.before.field2.ensures (sym (ap ident_text c.before.before.before.before.before.id2.given.1)) (omega arith))
     (λ c. search rules)
-    (λ c. short-as c.before.before.flexray.ensures (sym (ap identText c.before.before.before.before.before.id3.given.1)) (omega arith))
+    (λ c. short_as c.before.before.flexray.ensures (sym (ap ident_text c.before.before.before.before.before.id3.given.1)) (omega arith))
     (λ c. search rules)
-    (λ c. short-as c.before.before.error.ensures (sym (ap identText c.before.before.before.before.before.id4.given.1)) (omega arith))
+    (λ c. short_as c.before.before.error.ensures (sym (ap ident_text c.before.before.before.before.before.id4.given.1)) (omega arith))
     (λ c. search rules)
-    (λ c. short-as c.before.before.lay.ensures (sym (ap identText c.before.before.before.before.before.enum_told.given.1)) (omega arith)))
+    (λ c. short_as c.before.before.lay.ensures (sym (ap ident_text c.before.before.before.before.before.enum_told.given.1)) (omega arith)))

@@ -1,11 +1,11 @@
-use Rattle.text.proofs.ShortLaws.{short-then}
-use Rattle.script.specs.Answer.{badText}
+use Rattle.text.proofs.ShortLaws.{short_then}
+use Rattle.script.specs.Answer.{bad_text}
 use borrow.Author.Rules.{rules}
 use Rattle.script.proofs.answer.lay_bad.Statement.{statement}
 use Rattle.script.proofs.answer.lay_bad.Tie as tie
 
 pub lay-bad-spec : {M : Type 1} → statement M
-unfolding badText
+unfolding bad_text
 lay-bad-spec =
     tie.close
     (tie.spec
@@ -13,4 +13,4 @@ lay-bad-spec =
     (λ c κs. search rules)
     (λ c κs. search rules)
     (λ c. search rules)
-    (λ c. short-then c.before.before.before.before.before.before.lay.ensures c.before.before.field.ensures))
+    (λ c. short_then c.before.before.before.before.before.before.lay.ensures c.before.before.field.ensures))

@@ -1,12 +1,12 @@
-use Rattle.text.proofs.ShortLaws.{short-then, short-as}
-use Rattle.script.specs.Answer.{judgedText}
+use Rattle.text.proofs.ShortLaws.{short_then, short_as}
+use Rattle.script.specs.Answer.{judged_text}
 use borrow.Author.Rules.{rules}
 use native.Mathlib.Omega.{arith}
 use Rattle.script.proofs.answer.lay_judged.Statement.{statement}
 use Rattle.script.proofs.answer.lay_judged.Tie as tie
 
 pub lay-judged-spec : {M : Type 1} → statement M
-unfolding judgedText
+unfolding judged_text
 lay-judged-spec =
     tie.close
     (tie.spec
@@ -21,5 +21,5 @@ lay-judged-spec =
     (λ c κs. search rules)
     (λ c. search rules)
     (λ c.
-    short-as (short-then (short-then (short-then c.before.before.before.before.before.before.before.before.before.before.before.before.before.before.before.before.number.ensures c.before.before.before.before.before.before.before.before.before.before.before.field.ensures) c.before.before.before.before.before.before.before.time.ensures) c.before.before.field2.ensures)
+    short_as (short_then (short_then (short_then c.before.before.before.before.before.before.before.before.before.before.before.before.before.before.before.before.number.ensures c.before.before.before.before.before.before.before.before.before.before.before.field.ensures) c.before.before.before.before.before.before.before.time.ensures) c.before.before.field2.ensures)
     (rw (c.before.before.before.before.before.before.before.before.before.before.before.before.before.before.before.before.before.judged-number.ensures, c.before.before.before.before.before.before.before.before.before.before.before.before.before.before.before.before.before.before.before.before.judged-header.ensures)) (omega arith)))

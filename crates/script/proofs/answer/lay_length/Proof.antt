@@ -1,4 +1,4 @@
-use Rattle.text.proofs.ShortLaws.{short-then}
+use Rattle.text.proofs.ShortLaws.{short_then}
 use borrow.Author.Rules.{rules}
 use Rattle.script.proofs.answer.lay_length.Statement.{statement}
 use Rattle.script.proofs.answer.lay_length.Tie as tie
@@ -9,4 +9,4 @@ lay-length-spec = tie.close (tie.spec
     (λ c. search rules)
     (λ c κs. search rules)
     (λ c. search rules)
-    (λ c. short-then c.before.before.before.before.before.before.before.lay-numbered.ensures c.before.before.lay.ensures))
+    (λ c. short_then c.before.before.before.before.before.before.before.lay-numbered.ensures c.before.before.lay.ensures))

@@ -1,4 +1,4 @@
-use Rattle.text.proofs.ShortLaws.{short-then}
+use Rattle.text.proofs.ShortLaws.{short_then}
 use borrow.Author.Rules.{rules}
 use Rattle.script.proofs.answer.lay_number.Statement.{statement}
 use Rattle.script.proofs.answer.lay_number.Tie as tie
@@ -11,4 +11,4 @@ lay-number-spec =
     (λ c. search rules)
     (λ c κs. search rules)
     (λ c. search rules)
-    (λ c. short-then c.before.before.before.before.before.before.before.number.ensures c.before.before.lay.ensures))
+    (λ c. short_then c.before.before.before.before.before.before.before.number.ensures c.before.before.lay.ensures))

@@ -1,11 +1,11 @@
-use Rattle.text.proofs.ShortLaws.{short-then}
-use Rattle.script.specs.Answer.{placedText}
+use Rattle.text.proofs.ShortLaws.{short_then}
+use Rattle.script.specs.Answer.{placed_text}
 use borrow.Author.Rules.{rules}
 use Rattle.script.proofs.answer.placed.Statement.{statement}
 use Rattle.script.proofs.answer.placed.Tie as tie
 
 pub placed-spec : {M : Type 1} → statement M
-unfolding placedText
+unfolding placed_text
 placed-spec =
     tie.close
     (tie.spec
@@ -14,4 +14,4 @@ placed-spec =
     (λ c κs. search rules)
     (λ c κs. search rules)
     (λ c. search rules)
-    (λ c. short-then (short-then c.before.before.before.before.before.before.before.before.before.before.lay.ensures c.before.before.before.before.before.before.field.ensures) c.before.before.time.ensures))
+    (λ c. short_then (short_then c.before.before.before.before.before.before.before.before.before.before.lay.ensures c.before.before.before.before.before.before.field.ensures) c.before.before.time.ensures))

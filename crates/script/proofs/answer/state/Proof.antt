@@ -1,6 +1,6 @@
 use mathlib.Core.Path.{sym, ap}
-use Rattle.text.proofs.ShortLaws.{short-as}
-use Rattle.script.specs.Answer.{stateText}
+use Rattle.text.proofs.ShortLaws.{short_as}
+use Rattle.script.specs.Answer.{state_text}
 use borrow.Author.Rules.{rules}
 use native.Mathlib.Omega.{arith}
 use Rattle.script.proofs.answer.state.Statement.{statement}
@@ -17,6 +17,6 @@ state-spec =
     (λ c. search rules)
     (λ c κs. search rules)
     (λ c. search rules)
-    (λ c. short-as c.before.before.field.ensures (sym (ap stateText c.before.before.before.before.before.s.given.1)) (omega arith))
+    (λ c. short_as c.before.before.field.ensures (sym (ap state_text c.before.before.before.before.before.s.given.1)) (omega arith))
     (λ c. search rules)
-    (λ c. short-as c.before.before.lay.ensures (sym (ap stateText c.before.before.before.before.before.enum_told.given.1)) (omega arith)))
+    (λ c. short_as c.before.before.lay.ensures (sym (ap state_text c.before.before.before.before.before.enum_told.given.1)) (omega arith)))

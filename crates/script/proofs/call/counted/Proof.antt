@@ -1,12 +1,12 @@
 use mathlib.Core.Path.{◌∙◌}
 use borrow.Author.Tests.{eq-eqb, ne_eqb}
-use Rattle.script.specs.Call.{countedOf}
+use Rattle.script.specs.Call.{counted_of}
 use borrow.Author.Rules.{rules}
 use Rattle.script.proofs.call.counted.Statement.{statement}
 use Rattle.script.proofs.call.counted.Tie as tie
 
 pub counted_spec : {M : Type 1} → statement M
-unfolding countedOf
+unfolding counted_of
 counted_spec = tie.close (tie.spec
     (λ c κs. search rules)
     (λ c κs. search rules)

@@ -1,12 +1,12 @@
 use mathlib.Core.Path.{sym, ◌∙◌}
 use borrow.Author.Tests.{eq-eqb, ne_eqb, lt-ltb, le-ltb}
-use Rattle.script.specs.Call.{setUpOf}
+use Rattle.script.specs.Call.{set_up_of}
 use borrow.Author.Rules.{rules}
 use Rattle.script.proofs.call.set_up.Statement.{statement}
 use Rattle.script.proofs.call.set_up.Tie as tie
 
 pub set-up-spec : {M : Type 1} → statement M
-unfolding setUpOf
+unfolding set_up_of
 set-up-spec = tie.close (tie.spec
     (λ c κs. search rules)
     (λ c. rw (← c.before.words.ensures, lt-ltb _ _ c.if1.true))

@@ -1,11 +1,11 @@
 use mathlib.Core.Path.{sym, ◌∙◌}
-use Rattle.script.specs.Call.{canOf}
+use Rattle.script.specs.Call.{can_of}
 use borrow.Author.Rules.{rules}
 use Rattle.script.proofs.long.can.Statement.{statement}
 use Rattle.script.proofs.long.can.Tie as tie
 
 pub can-spec : {M : Type 1} → statement M
-unfolding canOf
+unfolding can_of
 can-spec = tie.close (tie.spec
     (λ c κs. search rules)
     (λ c. search rules)

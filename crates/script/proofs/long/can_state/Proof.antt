@@ -1,11 +1,11 @@
 use mathlib.Core.Path.{sym, ◌∙◌}
-use Rattle.script.specs.Call.{canStateOf}
+use Rattle.script.specs.Call.{can_state_of}
 use borrow.Author.Rules.{rules}
 use Rattle.script.proofs.long.can_state.Statement.{statement}
 use Rattle.script.proofs.long.can_state.Tie as tie
 
 pub can-state-spec : {M : Type 1} → statement M
-unfolding canStateOf
+unfolding can_state_of
 can-state-spec = tie.close (tie.spec
     (λ c κs. search rules)
     (λ c. search rules)

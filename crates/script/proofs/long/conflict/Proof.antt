@@ -1,11 +1,11 @@
 use mathlib.Core.Path.{sym, ◌∙◌}
-use Rattle.script.specs.Call.{conflictOf}
+use Rattle.script.specs.Call.{conflict_of}
 use borrow.Author.Rules.{rules}
 use Rattle.script.proofs.long.conflict.Statement.{statement}
 use Rattle.script.proofs.long.conflict.Tie as tie
 
 pub conflict-spec : {M : Type 1} → statement M
-unfolding conflictOf
+unfolding conflict_of
 conflict-spec = tie.close (tie.spec
     (λ c κs. search rules)
     (λ c. search rules)

@@ -1,11 +1,11 @@
 use mathlib.Core.Path.{sym, ◌∙◌}
-use Rattle.script.specs.Call.{eightWordsOf}
+use Rattle.script.specs.Call.{eight_words_of}
 use borrow.Author.Rules.{rules}
 use Rattle.script.proofs.long.eight_words.Statement.{statement}
 use Rattle.script.proofs.long.eight_words.Tie as tie
 
 pub eight-words-spec : {M : Type 1} → statement M
-unfolding eightWordsOf
+unfolding eight_words_of
 eight-words-spec = tie.close (tie.spec
     (λ c. search rules)
     (λ c κs. search rules)

@@ -1,11 +1,11 @@
 use mathlib.Core.Path.{sym, ◌∙◌}
-use Rattle.script.specs.Call.{errorOf}
+use Rattle.script.specs.Call.{error_of}
 use borrow.Author.Rules.{rules}
 use Rattle.script.proofs.long.error.Statement.{statement}
 use Rattle.script.proofs.long.error.Tie as tie
 
 pub error-spec : {M : Type 1} → statement M
-unfolding errorOf
+unfolding error_of
 error-spec = tie.close (tie.spec
     (λ c κs. search rules)
     (λ c. search rules)

@@ -1,11 +1,11 @@
 use mathlib.Core.Path.{sym, ◌∙◌}
-use Rattle.script.specs.Call.{flexrayOf}
+use Rattle.script.specs.Call.{flexray_of}
 use borrow.Author.Rules.{rules}
 use Rattle.script.proofs.long.flexray.Statement.{statement}
 use Rattle.script.proofs.long.flexray.Tie as tie
 
 pub flexray-spec : {M : Type 1} → statement M
-unfolding flexrayOf
+unfolding flexray_of
 flexray-spec = tie.close (tie.spec
     (λ c κs. search rules)
     (λ c. search rules)

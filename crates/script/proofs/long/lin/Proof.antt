@@ -1,11 +1,11 @@
 use mathlib.Core.Path.{sym, ◌∙◌}
-use Rattle.script.specs.Call.{linOf}
+use Rattle.script.specs.Call.{lin_of}
 use borrow.Author.Rules.{rules}
 use Rattle.script.proofs.long.lin.Statement.{statement}
 use Rattle.script.proofs.long.lin.Tie as tie
 
 pub lin-spec : {M : Type 1} → statement M
-unfolding linOf
+unfolding lin_of
 lin-spec = tie.close (tie.spec
     (λ c κs. search rules)
     (λ c. search rules)

@@ -1,11 +1,11 @@
 use mathlib.Core.Path.{sym, ◌∙◌}
-use Rattle.script.specs.Call.{sevenWordsOf}
+use Rattle.script.specs.Call.{seven_words_of}
 use borrow.Author.Rules.{rules}
 use Rattle.script.proofs.long.seven_words.Statement.{statement}
 use Rattle.script.proofs.long.seven_words.Tie as tie
 
 pub seven-words-spec : {M : Type 1} → statement M
-unfolding sevenWordsOf
+unfolding seven_words_of
 seven-words-spec = tie.close (tie.spec
     (λ c. search rules)
     (λ c κs. search rules)

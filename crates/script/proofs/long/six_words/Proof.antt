@@ -1,11 +1,11 @@
 use mathlib.Core.Path.{sym, ◌∙◌}
-use Rattle.script.specs.Call.{sixWordsOf}
+use Rattle.script.specs.Call.{six_words_of}
 use borrow.Author.Rules.{rules}
 use Rattle.script.proofs.long.six_words.Statement.{statement}
 use Rattle.script.proofs.long.six_words.Tie as tie
 
 pub six-words-spec : {M : Type 1} → statement M
-unfolding sixWordsOf
+unfolding six_words_of
 six-words-spec = tie.close (tie.spec
     (λ c. search rules)
     (λ c κs. search rules)

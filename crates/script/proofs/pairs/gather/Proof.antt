@@ -2,7 +2,7 @@ use mathlib.Core.Path.{sym, ◌∙◌}
 use Prim.Native.Nat.{◌-◌, ◌+◌}
 use lib.ListN.{length}
 use lib.Seq.{length-take-le}
-use Rattle.script.proofs.PairsLaws.{Gathering, gathering-first, gathering-more, gathering-bad, gathering-end}
+use Rattle.script.proofs.PairsLaws.{Gathering, gathering_first, gathering-more, gathering-bad, gathering_end}
 use borrow.Author.Rules.{rules}
 use Rattle.script.proofs.pairs.gather.Statement.{statement}
 use Rattle.script.proofs.pairs.gather.Tie as tie
@@ -17,7 +17,7 @@ pub gather-spec : {M : Type 1} → statement M
 gather-spec = tie.close (tie.spec
     invariant-loop
     decreases-loop
-    (λ c. gathering-first _ _)
+    (λ c. gathering_first _ _)
     (λ c. search rules)
     (λ c. search rules)
     (λ c. search rules)
@@ -32,4 +32,4 @@ gather-spec = tie.close (tie.spec
     (λ c. search rules)
     (λ c. search rules)
     (λ c. gathering-more c.before.before.before.before.before.before.before.before.before.before.loop.invariant c.before.before.before.before.before.before.before.before.before.loop-test.true c.before.before.before.before.before.before.before.find.ensures (sym c.before.before.before.before.before.narrow-of.ensures ∙ c.before.before.before.v.given.1) c.store.ensures)
-    (λ c. gathering-end c.before.loop.invariant c.loop-test.false))
+    (λ c. gathering_end c.before.loop.invariant c.loop-test.false))

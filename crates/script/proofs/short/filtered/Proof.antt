@@ -1,11 +1,11 @@
 use mathlib.Core.Path.{sym, ◌∙◌}
-use Rattle.script.specs.Call.{filteredOf}
+use Rattle.script.specs.Call.{filtered_of}
 use borrow.Author.Rules.{rules}
 use Rattle.script.proofs.short.filtered.Statement.{statement}
 use Rattle.script.proofs.short.filtered.Tie as tie
 
 pub filtered-spec : {M : Type 1} → statement M
-unfolding filteredOf
+unfolding filtered_of
 filtered-spec = tie.close (tie.spec
     (λ c κs. search rules)
     (λ c. search rules)

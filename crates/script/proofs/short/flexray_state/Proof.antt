@@ -1,11 +1,11 @@
 use mathlib.Core.Path.{sym, ◌∙◌}
-use Rattle.script.specs.Call.{flexrayStateOf}
+use Rattle.script.specs.Call.{flexray_state_of}
 use borrow.Author.Rules.{rules}
 use Rattle.script.proofs.short.flexray_state.Statement.{statement}
 use Rattle.script.proofs.short.flexray_state.Tie as tie
 
 pub flexray-state-spec : {M : Type 1} → statement M
-unfolding flexrayStateOf
+unfolding flexray_state_of
 flexray-state-spec = tie.close (tie.spec
     (λ c κs. search rules)
     (λ c. search rules)

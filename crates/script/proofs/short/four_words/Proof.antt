@@ -1,11 +1,11 @@
 use mathlib.Core.Path.{sym, ◌∙◌}
-use Rattle.script.specs.Call.{fourWordsOf}
+use Rattle.script.specs.Call.{four_words_of}
 use borrow.Author.Rules.{rules}
 use Rattle.script.proofs.short.four_words.Statement.{statement}
 use Rattle.script.proofs.short.four_words.Tie as tie
 
 pub four-words-spec : {M : Type 1} → statement M
-unfolding fourWordsOf
+unfolding four_words_of
 four-words-spec = tie.close (tie.spec
     (λ c. search rules)
     (λ c κs. search rules)

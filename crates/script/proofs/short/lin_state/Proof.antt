@@ -1,11 +1,11 @@
 use mathlib.Core.Path.{sym, ◌∙◌}
-use Rattle.script.specs.Call.{linStateOf}
+use Rattle.script.specs.Call.{lin_state_of}
 use borrow.Author.Rules.{rules}
 use Rattle.script.proofs.short.lin_state.Statement.{statement}
 use Rattle.script.proofs.short.lin_state.Tie as tie
 
 pub lin-state-spec : {M : Type 1} → statement M
-unfolding linStateOf
+unfolding lin_state_of
 lin-state-spec = tie.close (tie.spec
     (λ c κs. search rules)
     (λ c. search rules)

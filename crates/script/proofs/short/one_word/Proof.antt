@@ -1,11 +1,11 @@
 use mathlib.Core.Path.{sym, ◌∙◌}
-use Rattle.script.specs.Call.{oneWordOf}
+use Rattle.script.specs.Call.{one_word_of}
 use borrow.Author.Rules.{rules}
 use Rattle.script.proofs.short.one_word.Statement.{statement}
 use Rattle.script.proofs.short.one_word.Tie as tie
 
 pub one-word-spec : {M : Type 1} → statement M
-unfolding oneWordOf
+unfolding one_word_of
 one-word-spec = tie.close (tie.spec
     (λ c. search rules)
     (λ c κs. search rules)

@@ -1,11 +1,11 @@
 use mathlib.Core.Path.{sym, ◌∙◌}
-use Rattle.script.specs.Call.{removedOf}
+use Rattle.script.specs.Call.{removed_of}
 use borrow.Author.Rules.{rules}
 use Rattle.script.proofs.short.removed.Statement.{statement}
 use Rattle.script.proofs.short.removed.Tie as tie
 
 pub removed-spec : {M : Type 1} → statement M
-unfolding removedOf
+unfolding removed_of
 removed-spec = tie.close (tie.spec
     (λ c κs. search rules)
     (λ c. search rules)

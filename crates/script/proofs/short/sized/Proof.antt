@@ -1,11 +1,11 @@
 use mathlib.Core.Path.{sym, ◌∙◌}
-use Rattle.script.specs.Call.{sizedOf}
+use Rattle.script.specs.Call.{sized_of}
 use borrow.Author.Rules.{rules}
 use Rattle.script.proofs.short.sized.Statement.{statement}
 use Rattle.script.proofs.short.sized.Tie as tie
 
 pub sized-spec : {M : Type 1} → statement M
-unfolding sizedOf
+unfolding sized_of
 sized-spec = tie.close (tie.spec
     (λ c κs. search rules)
     (λ c. search rules)

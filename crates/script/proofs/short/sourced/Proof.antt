@@ -1,11 +1,11 @@
 use mathlib.Core.Path.{sym, ◌∙◌}
-use Rattle.script.specs.Call.{sourcedOf}
+use Rattle.script.specs.Call.{sourced_of}
 use borrow.Author.Rules.{rules}
 use Rattle.script.proofs.short.sourced.Statement.{statement}
 use Rattle.script.proofs.short.sourced.Tie as tie
 
 pub sourced-spec : {M : Type 1} → statement M
-unfolding sourcedOf
+unfolding sourced_of
 sourced-spec = tie.close (tie.spec
     (λ c κs. search rules)
     (λ c. search rules)

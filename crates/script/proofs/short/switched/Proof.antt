@@ -1,11 +1,11 @@
 use mathlib.Core.Path.{sym, ◌∙◌}
-use Rattle.script.specs.Call.{switchedOf}
+use Rattle.script.specs.Call.{switched_of}
 use borrow.Author.Rules.{rules}
 use Rattle.script.proofs.short.switched.Statement.{statement}
 use Rattle.script.proofs.short.switched.Tie as tie
 
 pub switched-spec : {M : Type 1} → statement M
-unfolding switchedOf
+unfolding switched_of
 switched-spec = tie.close (tie.spec
     (λ c κs. search rules)
     (λ c. search rules)

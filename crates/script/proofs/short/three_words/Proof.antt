@@ -1,11 +1,11 @@
 use mathlib.Core.Path.{sym, ◌∙◌}
-use Rattle.script.specs.Call.{threeWordsOf}
+use Rattle.script.specs.Call.{three_words_of}
 use borrow.Author.Rules.{rules}
 use Rattle.script.proofs.short.three_words.Statement.{statement}
 use Rattle.script.proofs.short.three_words.Tie as tie
 
 pub three-words-spec : {M : Type 1} → statement M
-unfolding threeWordsOf
+unfolding three_words_of
 three-words-spec = tie.close (tie.spec
     (λ c. search rules)
     (λ c κs. search rules)

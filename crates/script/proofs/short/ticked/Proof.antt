@@ -1,11 +1,11 @@
 use mathlib.Core.Path.{sym, ◌∙◌}
-use Rattle.script.specs.Call.{tickedOf}
+use Rattle.script.specs.Call.{ticked_of}
 use borrow.Author.Rules.{rules}
 use Rattle.script.proofs.short.ticked.Statement.{statement}
 use Rattle.script.proofs.short.ticked.Tie as tie
 
 pub ticked-spec : {M : Type 1} → statement M
-unfolding tickedOf
+unfolding ticked_of
 ticked-spec = tie.close (tie.spec
     (λ c κs. search rules)
     (λ c. search rules)

@@ -1,11 +1,11 @@
 use mathlib.Core.Path.{sym, ◌∙◌}
-use Rattle.script.specs.Call.{twoWordsOf}
+use Rattle.script.specs.Call.{two_words_of}
 use borrow.Author.Rules.{rules}
 use Rattle.script.proofs.short.two_words.Statement.{statement}
 use Rattle.script.proofs.short.two_words.Tie as tie
 
 pub two-words-spec : {M : Type 1} → statement M
-unfolding twoWordsOf
+unfolding two_words_of
 two-words-spec = tie.close (tie.spec
     (λ c. search rules)
     (λ c κs. search rules)

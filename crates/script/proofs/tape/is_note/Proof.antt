@@ -1,11 +1,11 @@
 use mathlib.Core.Path.{◌∙◌}
-use Rattle.script.specs.Tape.{isNote}
+use Rattle.script.specs.Tape.{is_note}
 use borrow.Author.Rules.{rules}
 use Rattle.script.proofs.tape.is_note.Statement.{statement}
 use Rattle.script.proofs.tape.is_note.Tie as tie
 
 pub is-note-spec : {M : Type 1} → statement M
-unfolding isNote
+unfolding is_note
 is-note-spec =
     tie.close
     (tie.spec

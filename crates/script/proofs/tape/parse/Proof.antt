@@ -1,13 +1,13 @@
 use mathlib.Core.Path.{sym, ◌∙◌}
 use borrow.Author.Tests.{eq-eqb, ne_eqb, not-true, not-false}
 use native.Mathlib.Omega.{arith}
-use Rattle.script.specs.Tape.{tapeOf}
+use Rattle.script.specs.Tape.{tape_of}
 use borrow.Author.Rules.{rules}
 use Rattle.script.proofs.tape.parse.Statement.{statement}
 use Rattle.script.proofs.tape.parse.Tie as tie
 
 pub parse-spec : {M : Type 1} → statement M
-unfolding tapeOf
+unfolding tape_of
 parse-spec =
     tie.close
     (tie.spec

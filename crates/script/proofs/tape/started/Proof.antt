@@ -1,11 +1,11 @@
 use mathlib.Core.Path.{sym, ◌∙◌}
-use Rattle.script.specs.Tape.{startedOf}
+use Rattle.script.specs.Tape.{started_of}
 use borrow.Author.Rules.{rules}
 use Rattle.script.proofs.tape.started.Statement.{statement}
 use Rattle.script.proofs.tape.started.Tie as tie
 
 pub started-spec : {M : Type 1} → statement M
-unfolding startedOf
+unfolding started_of
 started-spec =
     tie.close
     (tie.spec

@@ -1,11 +1,11 @@
 use mathlib.Core.Path.{sym, ◌∙◌}
-use Rattle.script.specs.Word.{boundsAt}
+use Rattle.script.specs.Word.{bounds_at}
 use borrow.Author.Rules.{rules}
 use Rattle.script.proofs.word.bounds_at.Statement.{statement}
 use Rattle.script.proofs.word.bounds_at.Tie as tie
 
 pub bounds-at-spec : {M : Type 1} → statement M
-unfolding boundsAt
+unfolding bounds_at
 bounds-at-spec = tie.close (tie.spec
     (λ c κs. search rules)
     (λ c. search rules)

@@ -1,11 +1,11 @@
 use mathlib.Core.Path.{sym, ◌∙◌}
-use Rattle.script.specs.Word.{flagAt}
+use Rattle.script.specs.Word.{flag_at}
 use borrow.Author.Rules.{rules}
 use Rattle.script.proofs.word.flag_at.Statement.{statement}
 use Rattle.script.proofs.word.flag_at.Tie as tie
 
 pub flag-at-spec : {M : Type 1} → statement M
-unfolding flagAt
+unfolding flag_at
 flag-at-spec = tie.close (tie.spec
     (λ c κs. search rules)
     (λ c κs. search rules)

@@ -1,5 +1,5 @@
 use mathlib.Core.Path.{sym, ◌∙◌}
-use Rattle.script.specs.Word.{narrowOf}
+use Rattle.script.specs.Word.{narrow_of}
 use Rattle.script.proofs.WordLaws.{number-most}
 use borrow.Author.Rules.{rules}
 use native.Mathlib.Omega.{arith}
@@ -7,7 +7,7 @@ use Rattle.script.proofs.word.narrow_of.Statement.{statement}
 use Rattle.script.proofs.word.narrow_of.Tie as tie
 
 pub narrow-of-spec : {M : Type 1} → statement M
-unfolding narrowOf
+unfolding narrow_of
 narrow-of-spec = tie.close (tie.spec
     (λ c κs. search rules)
     (λ c. search rules)

@@ -1,11 +1,11 @@
 use mathlib.Core.Path.{sym, ◌∙◌}
-use Rattle.script.specs.Word.{stampAt}
+use Rattle.script.specs.Word.{stamp_at}
 use borrow.Author.Rules.{rules}
 use Rattle.script.proofs.word.stamp_at.Statement.{statement}
 use Rattle.script.proofs.word.stamp_at.Tie as tie
 
 pub stamp-at-spec : {M : Type 1} → statement M
-unfolding stampAt
+unfolding stamp_at
 stamp-at-spec = tie.close (tie.spec
     (λ c κs. search rules)
     (λ c. search rules)

@@ -3,7 +3,7 @@ use Prim.Native.Nat.{◌*◌, ◌/◌}
 use mathlib.Core.Path.{◌≡◌, sym, ◌∙◌, ap}
 use native.Mathlib.Omega.{arith}
 use lib.IntN.{pos}
-use Rattle.tape.proofs.SampleLaws.{sample-after, as-signed}
+use Rattle.tape.proofs.SampleLaws.{sample_after, as_signed}
 use Rattle.tape.proofs.sample.later.Statement.{statement}
 use Rattle.tape.proofs.sample.later.Tie as tie
 
@@ -12,7 +12,7 @@ returns c =
     let n = c.args.n in
     let p = c.requires in
     let e : n * 6 / 125000 ≡ 6 * n / 125000 = omega arith in
-    as-signed (n * 6 / 125000) (omega arith) ∙ ap pos e ∙ sym (sample-after n)
+    as_signed (n * 6 / 125000) (omega arith) ∙ ap pos e ∙ sym (sample_after n)
 
 pub later-spec : {M : Type 1} → statement M
 later-spec = tie.close (tie.spec (λ c. search rules) (λ c. search rules) returns)

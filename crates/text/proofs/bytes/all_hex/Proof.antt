@@ -1,7 +1,7 @@
 use borrow.Author.Rules.{rules}
 use lib.ListN.{length}
 use Prim.Native.Nat.{◌-◌}
-use Rattle.text.proofs.BytesLaws.{Judging, judging-first, judging-more, judging-wrong, judging-end}
+use Rattle.text.proofs.BytesLaws.{Judging, judging_first, judging_more, judging_wrong, judging_end}
 use Rattle.text.proofs.bytes.all_hex.Statement.{statement}
 use Rattle.text.proofs.bytes.all_hex.Tie as tie
 
@@ -17,11 +17,11 @@ all-hex-spec =
     (tie.spec
     invariant-loop
     decreases-loop
-    (λ c. judging-first _)
+    (λ c. judging_first _)
     (λ c. search rules)
     (λ c κs. search rules)
-    (λ c. judging-wrong _ c.before.before.before.before.loop.invariant c.before.before.before.loop-test.true c.before.value.ensures.is c.if1.true)
+    (λ c. judging_wrong _ c.before.before.before.before.loop.invariant c.before.before.before.loop-test.true c.before.value.ensures.is c.if1.true)
     (λ c. search rules)
     (λ c. search rules)
-    (λ c. judging-more _ c.before.before.before.before.loop.invariant c.before.before.before.loop-test.true c.before.value.ensures.is c.if1.false)
-    (λ c. judging-end c.before.loop.invariant c.loop-test.false))
+    (λ c. judging_more _ c.before.before.before.before.loop.invariant c.before.before.before.loop-test.true c.before.value.ensures.is c.if1.false)
+    (λ c. judging_end c.before.loop.invariant c.loop-test.false))

@@ -1,7 +1,7 @@
 use borrow.Author.Rules.{rules}
 use native.Mathlib.Omega.{arith}
 use Prim.Native.Nat.{◌-◌, ◌+◌, ◌*◌}
-use Rattle.text.proofs.BytesLaws.{Laying, laying-first, laying-more, laying-end, digit_at}
+use Rattle.text.proofs.BytesLaws.{Laying, laying_first, laying_more, laying_end, digit_at}
 use Rattle.text.proofs.bytes.lay.Statement.{statement}
 use Rattle.text.proofs.bytes.lay.Tie as tie
 
@@ -17,7 +17,7 @@ lay-spec =
     (tie.spec
     invariant-loop
     decreases-loop
-    (λ c. laying-first _ _)
+    (λ c. laying_first _ _)
     (λ c. search rules)
     (λ c. search rules)
     (λ c κs. search rules)
@@ -38,6 +38,6 @@ lay-spec =
     (λ c. search rules)
     (λ c.
     let k = c.before.before.before.before in
-    laying-more _ _ k.before.loop.invariant k.loop-test.true c.before.before.value.ensures.is c.value2.ensures.is)
+    laying_more _ _ k.before.loop.invariant k.loop-test.true c.before.before.value.ensures.is c.value2.ensures.is)
     (λ c. c.before.loop.invariant.size)
-    (λ c. laying-end c.before.loop.invariant c.loop-test.false c.before.before.before.before.requires.1))
+    (λ c. laying_end c.before.loop.invariant c.loop-test.false c.before.before.before.before.requires.1))

@@ -1,7 +1,7 @@
 use borrow.Author.Rules.{rules}
 use lib.ListN.{length}
 use Prim.Native.Nat.{◌-◌}
-use Rattle.text.proofs.LineLaws.{Finding, finding-first, finding-more, finding-hit, finding-end}
+use Rattle.text.proofs.LineLaws.{Finding, finding-first, finding_more, finding_hit, finding_end}
 use Rattle.text.proofs.line.find.Statement.{statement}
 use Rattle.text.proofs.line.find.Tie as tie
 
@@ -19,8 +19,8 @@ find_spec =
     decreases-loop
     (λ c. finding-first _ _)
     (λ c. search rules)
-    (λ c. finding-hit c.before.before.before.loop.invariant c.before.before.loop-test.true c.if1.true)
+    (λ c. finding_hit c.before.before.before.loop.invariant c.before.before.loop-test.true c.if1.true)
     (λ c. search rules)
     (λ c. search rules)
-    (λ c. finding-more c.before.before.before.loop.invariant c.before.before.loop-test.true c.if1.false)
-    (λ c. finding-end c.before.loop.invariant c.loop-test.false))
+    (λ c. finding_more c.before.before.before.loop.invariant c.before.before.loop-test.true c.if1.false)
+    (λ c. finding_end c.before.loop.invariant c.loop-test.false))

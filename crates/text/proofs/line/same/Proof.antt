@@ -1,7 +1,7 @@
 use borrow.Author.Rules.{rules}
 use lib.ListN.{length}
 use Prim.Native.Nat.{◌-◌}
-use Rattle.text.proofs.LineLaws.{Agreeing, lengths_differ, agreeing-first, agreeing-more, agreeing-stop, agreeing-end}
+use Rattle.text.proofs.LineLaws.{Agreeing, lengths_differ, agreeing_first, agreeing_more, agreeing_stop, agreeing_end}
 use Rattle.text.proofs.line.same.Statement.{statement}
 use Rattle.text.proofs.line.same.Tie as tie
 
@@ -18,11 +18,11 @@ same_spec =
     invariant-loop
     decreases-loop
     (λ c. lengths_differ c.before.args.a.now c.before.args.b.now c.if1.true)
-    (λ c. agreeing-first _ _)
+    (λ c. agreeing_first _ _)
     (λ c. search rules)
     (λ c. search rules)
-    (λ c. agreeing-stop c.before.before.before.before.loop.invariant c.before.before.before.loop-test.true c.before.before.before.before.before.if1.false c.if2.true)
+    (λ c. agreeing_stop c.before.before.before.before.loop.invariant c.before.before.before.loop-test.true c.before.before.before.before.before.if1.false c.if2.true)
     (λ c. search rules)
     (λ c. search rules)
-    (λ c. agreeing-more c.before.before.before.before.loop.invariant c.before.before.before.loop-test.true c.before.before.before.before.before.if1.false c.if2.false)
-    (λ c. agreeing-end c.before.loop.invariant c.loop-test.false c.before.before.if1.false))
+    (λ c. agreeing_more c.before.before.before.before.loop.invariant c.before.before.before.loop-test.true c.before.before.before.before.before.if1.false c.if2.false)
+    (λ c. agreeing_end c.before.loop.invariant c.loop-test.false c.before.before.if1.false))

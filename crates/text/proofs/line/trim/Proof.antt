@@ -1,6 +1,6 @@
 use mathlib.Core.Path.{refl, sym}
 use borrow.Author.Rules.{rules}
-use Rattle.text.proofs.LineLaws.{Trimming, trimming-first, trimming-space, trimming-stop, trimming-none}
+use Rattle.text.proofs.LineLaws.{Trimming, trimming_first, trimming_space, trimming_stop, trimming_none}
 use lib.Seq.{length-take-le}
 use Rattle.text.proofs.line.trim.Statement.{statement}
 use Rattle.text.proofs.line.trim.Tie as tie
@@ -17,13 +17,13 @@ trim-spec =
     (tie.spec
     invariant-loop
     decreases-loop
-    (λ c. trimming-first _)
+    (λ c. trimming_first _)
     (λ c. search rules)
     (λ c. search rules)
     (λ c. sym (length-take-le _ c.before.before.before.before.before.args.s.now c.before.before.before.before.loop.invariant.most))
-    (λ c. trimming-stop c.before.before.before.before.loop.invariant c.before.before.before.loop-test.true c.before.if1.true)
+    (λ c. trimming_stop c.before.before.before.before.loop.invariant c.before.before.before.loop-test.true c.before.if1.true)
     (λ c. search rules)
     (λ c. search rules)
-    (λ c. trimming-space c.before.before.before.loop.invariant c.before.before.loop-test.true c.if1.false)
+    (λ c. trimming_space c.before.before.before.loop.invariant c.before.before.loop-test.true c.if1.false)
     (λ c. refl)
-    (λ c. trimming-none c.before.before.loop.invariant c.before.loop-test.false))
+    (λ c. trimming_none c.before.before.loop.invariant c.before.loop-test.false))

@@ -2,7 +2,7 @@ use borrow.Author.Rules.{rules}
 use lib.ListN.{length}
 use Prim.Native.Nat.{◌-◌}
 use mathlib.Core.Path.{◌∙◌, sym}
-use Rattle.text.proofs.NumberLaws.{Reading, reading-first, reading-more, reading-wrong, reading-over, reading-none, reading-end}
+use Rattle.text.proofs.NumberLaws.{Reading, reading_first, reading_more, reading_wrong, reading_over, reading_none, reading_end}
 use Rattle.text.proofs.number.digits.Statement.{statement}
 use Rattle.text.proofs.number.digits.Tie as tie
 
@@ -18,24 +18,24 @@ digits-spec =
     (tie.spec
     invariant-loop
     decreases-loop
-    (λ c. reading-none _ _ _ c.if1.true)
-    (λ c. reading-first _ _ _)
+    (λ c. reading_none _ _ _ c.if1.true)
+    (λ c. reading_first _ _ _)
     (λ c. search rules)
     (λ c κs. search rules)
-    (λ c. reading-wrong _ c.before.before.before.before.loop.invariant c.before.before.before.loop-test.true c.before.value.ensures.is c.if2.true)
+    (λ c. reading_wrong _ c.before.before.before.before.loop.invariant c.before.before.before.loop-test.true c.before.value.ensures.is c.if2.true)
     (λ c κs. search rules)
     (λ c. search rules)
     (λ c. search rules)
     (λ c.
     let k = c.before.before.before.before in
     let m = k.before.before in
-    reading-over _ m.before.loop.invariant m.loop-test.true k.value.ensures.is m.before.before.before.before.requires
+    reading_over _ m.before.loop.invariant m.loop-test.true k.value.ensures.is m.before.before.before.before.requires
     c.before.before.before.if2.false (sym c.before.before.grown.ensures ∙ c.enum_told.given.1))
     (λ c. search rules)
     (λ c. search rules)
     (λ c.
     let k = c.before.before.before.before.before in
     let m = k.before.before in
-    reading-more _ m.before.loop.invariant m.loop-test.true k.value.ensures.is _
+    reading_more _ m.before.loop.invariant m.loop-test.true k.value.ensures.is _
     c.before.before.before.before.if2.false (sym c.before.before.before.grown.ensures ∙ c.before.next.given.1))
-    (λ c. reading-end c.before.loop.invariant c.loop-test.false c.before.before.if1.false))
+    (λ c. reading_end c.before.loop.invariant c.loop-test.false c.before.before.if1.false))

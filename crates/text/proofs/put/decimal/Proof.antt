@@ -1,4 +1,4 @@
-use Rattle.text.proofs.PutLaws.{ends-part}
+use Rattle.text.proofs.PutLaws.{ends_part}
 use borrow.Author.Rules.{rules}
 use Rattle.text.proofs.put.decimal.Statement.{statement}
 use Rattle.text.proofs.put.decimal.Tie as tie
@@ -14,4 +14,4 @@ decimal-spec =
     (λ c. search rules)
     (λ c κs. search rules)
     (λ c. search rules)
-    (λ c. rw (← ends-part c.before.before.before.before.before.before.before.spell.ensures c.before.before.before.before.before.before.before.spell.auto.0) c.before.before.put-bytes.ensures))
+    (λ c. rw (← ends_part c.before.before.before.before.before.before.before.spell.ensures c.before.before.before.before.before.before.before.spell.auto.0) c.before.before.put-bytes.ensures))

@@ -1,4 +1,4 @@
-use Rattle.text.proofs.PutLaws.{hex-none, hex-full, hex-wrote}
+use Rattle.text.proofs.PutLaws.{hex_none, hex_full, hex_wrote}
 use native.Mathlib.Omega.{arith}
 use borrow.Author.Rules.{rules}
 use Rattle.text.proofs.put.hex.Statement.{statement}
@@ -11,12 +11,12 @@ hex-spec =
     (λ c. search rules)
     (λ c κs. search rules)
     (λ c. search rules)
-    (λ c. rw (hex-none c.before.before.before.before.before.before.before.before.args.src.now c.before.before.before.before.before.if1.true) c.before.before.put-bytes.ensures)
+    (λ c. rw (hex_none c.before.before.before.before.before.before.before.before.args.src.now c.before.before.before.before.before.if1.true) c.before.before.put-bytes.ensures)
     (λ c. search rules)
-    (λ c. hex-full c.before.before.before.before.args.src.now c.before.if1.false (omega arith))
+    (λ c. hex_full c.before.before.before.before.args.src.now c.before.if1.false (omega arith))
     (λ c. search rules)
-    (λ c. hex-full c.before.before.before.before.before.args.src.now c.before.before.if1.false (omega arith))
+    (λ c. hex_full c.before.before.before.before.before.args.src.now c.before.before.if1.false (omega arith))
     (λ c κs. search rules)
     (λ c. search rules)
     (λ c. search rules)
-    (λ c. hex-wrote c.before.before.before.before.before.before.before.before.before.args.src.now c.before.before.before.before.before.before.if1.false (omega arith) c.before.before.lay-hex.ensures))
+    (λ c. hex_wrote c.before.before.before.before.before.before.before.before.before.args.src.now c.before.before.before.before.before.before.if1.false (omega arith) c.before.before.lay-hex.ensures))

@@ -1,11 +1,11 @@
-use Rattle.text.specs.Put.{letterOf}
+use Rattle.text.specs.Put.{letter_of}
 use lib.ListN.{get_or, length, length-set}
 use borrow.Author.Rules.{rules}
 use native.Mathlib.Omega.{arith}
 use lib.Bits.{and_mask}
 use mathlib.Core.Path.{◌∙◌, ap}
 use Prim.Native.Nat.{◌-◌}
-use Rattle.text.proofs.PutLaws.{Hexing, hexing-first, hexing-more, hexing-end}
+use Rattle.text.proofs.PutLaws.{Hexing, hexing_first, hexing_more, hexing_end}
 use Rattle.text.proofs.put.lay_hex.Statement.{statement}
 use Rattle.text.proofs.put.lay_hex.Tie as tie
 
@@ -21,7 +21,7 @@ lay-hex-spec =
     (tie.spec
     invariant-loop
     decreases-loop
-    (λ c. hexing-first _ _ _)
+    (λ c. hexing_first _ _ _)
     (λ c. search rules)
     (λ c κs. omega (arith, c.shared-slice-known2.given c.before.before.loop.i))
     (λ c. search rules)
@@ -31,6 +31,6 @@ lay-hex-spec =
     (λ c. search rules)
     (λ c. search rules)
     (λ c. search rules)
-    (λ c. hexing-more c.before.letter.result c.letter2.result c.before.before.before.before.loop.invariant c.before.before.before.loop-test.true c.before.letter.ensures (c.letter2.ensures ∙ ap letterOf (and_mask _ 4)))
+    (λ c. hexing_more c.before.letter.result c.letter2.result c.before.before.before.before.loop.invariant c.before.before.before.loop-test.true c.before.letter.ensures (c.letter2.ensures ∙ ap letter_of (and_mask _ 4)))
     (λ c. c.before.loop.invariant.size)
-    (λ c. hexing-end c.before.loop.invariant c.loop-test.false c.before.before.before.before.requires))
+    (λ c. hexing_end c.before.loop.invariant c.loop-test.false c.before.before.before.before.requires))

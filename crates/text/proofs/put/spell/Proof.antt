@@ -1,7 +1,7 @@
 use borrow.Author.Rules.{rules}
 use lib.ListN.{length-set}
 use mathlib.Core.Path.{refl, ◌∙◌, sym}
-use Rattle.text.proofs.PutLaws.{Spelling, spelling-first, spelling-more, spelling-last, spelling-end}
+use Rattle.text.proofs.PutLaws.{Spelling, spelling_first, spelling_more, spelling_last, spelling_end}
 use Rattle.text.proofs.put.spell.Statement.{statement}
 use Rattle.text.proofs.put.spell.Tie as tie
 
@@ -17,14 +17,14 @@ spell-spec =
     (tie.spec
     invariant-loop
     decreases-loop
-    (λ c. spelling-first _ _ c.requires)
+    (λ c. spelling_first _ _ c.requires)
     (λ c. search rules)
     (λ c. search rules)
     (λ c. search rules)
     (λ c. search rules)
     (λ c. simp length-set (c.before.before.loop.invariant.size ∙ sym c.before.before.before.requires))
-    (λ c. spelling-last _ c.before.before.loop.invariant c.before.loop-test.true refl c.if1.true)
+    (λ c. spelling_last _ c.before.before.loop.invariant c.before.loop-test.true refl c.if1.true)
     (λ c. search rules)
-    (λ c. spelling-more _ _ c.before.before.loop.invariant c.before.loop-test.true refl refl c.if1.false)
+    (λ c. spelling_more _ _ c.before.before.loop.invariant c.before.loop-test.true refl refl c.if1.false)
     (λ c. c.before.loop.invariant.size ∙ sym c.before.before.requires)
-    (λ c. spelling-end c.before.loop.invariant c.loop-test.false))
+    (λ c. spelling_end c.before.loop.invariant c.loop-test.false))

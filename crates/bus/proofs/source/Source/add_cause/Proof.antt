@@ -1,10 +1,10 @@
-use Rattle.bus.specs.Source.{addCause}
+use Rattle.bus.specs.Source.{add_cause}
 use borrow.Author.Rules.{rules}
 use Rattle.bus.proofs.source.Source.add_cause.Statement.{statement}
 use Rattle.bus.proofs.source.Source.add_cause.Tie as tie
 
 pub add-cause-spec : {M : Type 1} → statement M
-unfolding addCause
+unfolding add_cause
 add-cause-spec = tie.close (tie.spec
     (λ c κs. search rules)
     (λ c κs. search rules)

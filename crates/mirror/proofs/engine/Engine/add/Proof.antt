@@ -1,12 +1,12 @@
 use mathlib.Core.Path.{refl}
-use Rattle.mirror.specs.Engine.{causeOf, soundOf}
+use Rattle.mirror.specs.Engine.{cause_of, sound_of}
 use Rattle.mirror.proofs.MirrorLaws.{add-refused, add_done}
 use borrow.Author.Rules.{rules}
 use Rattle.mirror.proofs.engine.Engine.add.Statement.{statement}
 use Rattle.mirror.proofs.engine.Engine.add.Tie as tie
 
 pub add_spec : {M : Type 1} → statement M
-unfolding causeOf soundOf
+unfolding cause_of sound_of
 add_spec = tie.close (tie.spec
     (λ c κs. search rules)
     (λ c. search rules)

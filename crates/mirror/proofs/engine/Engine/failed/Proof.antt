@@ -1,6 +1,6 @@
 use mathlib.Core.Path.{sym, ◌∙◌}
-use Rattle.mirror.specs.Engine.{soundOf}
-use Rattle.mirror.specs.Failed.{failedOf}
+use Rattle.mirror.specs.Engine.{sound_of}
+use Rattle.mirror.specs.Failed.{failed_of}
 use Rattle.mirror.proofs.MirrorLaws.{unsound, failed-none, failed-done}
 use borrow.Author.Tests.{not-true, not-false}
 use borrow.Author.Rules.{rules}
@@ -8,7 +8,7 @@ use Rattle.mirror.proofs.engine.Engine.failed.Statement.{statement}
 use Rattle.mirror.proofs.engine.Engine.failed.Tie as tie
 
 pub failed-spec : {M : Type 1} → statement M
-unfolding soundOf failedOf
+unfolding sound_of failed_of
 failed-spec = tie.close (tie.spec
     (λ c κs. search rules)
     (λ c. unsound _ _ _ (sym c.before.sound.ensures ∙ not-true _ c.if1.true))
