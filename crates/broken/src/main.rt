@@ -1,4 +1,6 @@
 // Hands broken engine values to every call. One line for each way to break the soundness rule: how many calls answered 19.
+#![tactic(auto)]
+
 mod breach;
 mod calls;
 

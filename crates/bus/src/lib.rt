@@ -1,3 +1,5 @@
+#![tactic(auto)]
+
 pub mod filter;
 pub mod report;
 pub mod source;

@@ -8,32 +8,32 @@ use crate::number::{Part, Read8, Read16, Read32};
 use crate::refusal::Refusal;
 use crate::time::Ticks;
 
-#[derive(Drop)]
+#[derive(Clone, Copy)]
 pub enum FlagsRead {
     Got(Kind, u8, usize),
     Refused(Refusal),
 }
 
-#[derive(Drop)]
+#[derive(Clone, Copy)]
 pub enum StateRead {
     Got(State, usize),
     Refused(Refusal),
 }
 
-#[derive(Drop)]
+#[derive(Clone, Copy)]
 pub enum IdentRead {
     Got(Ident, usize),
     Refused(Refusal),
 }
 
 // Where a payload starts, how long it is and where it ends.
-#[derive(Drop)]
+#[derive(Clone, Copy)]
 pub enum LoadRead {
     Got(usize, usize, usize),
     Refused(Refusal),
 }
 
-#[derive(Drop)]
+#[derive(Clone, Copy)]
 pub enum ItemRead {
     Got {
         item: Item,

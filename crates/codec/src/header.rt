@@ -8,14 +8,14 @@ use crate::number::Put;
 use crate::refusal::Refusal;
 use crate::time::Time;
 
-#[derive(Drop)]
+#[derive(Clone, Copy)]
 pub struct Header {
     pub sequence: u8,
     pub time: Time,
     pub length: u16,
 }
 
-#[derive(Drop)]
+#[derive(Clone, Copy)]
 pub enum HeaderRead {
     Got(Header),
     Refused(Refusal),

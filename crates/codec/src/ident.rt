@@ -3,7 +3,7 @@ ghost use Rattle.std.specs.Prelude.{◌≡◌};
 ghost use Rattle.codec.specs.Ident.{network_type, kind_in, kind_of, can_zero, can_range, can_fd, pid_ok, channels_ok, flexray_range, ident_ok, can_most, most_of};
 ghost use Rattle.codec.specs.Number.{Below};
 
-#[derive(Drop)]
+#[derive(Clone, Copy)]
 pub enum Kind {
     Can,
     Lin,
@@ -11,7 +11,7 @@ pub enum Kind {
 }
 
 // The frame id that an item carries; `Bare` where it carries none and names only its network type.
-#[derive(Drop)]
+#[derive(Clone, Copy)]
 pub enum Ident {
     Can(u32),
     Lin(u8),
@@ -21,7 +21,7 @@ pub enum Ident {
     Bare(Kind),
 }
 
-#[derive(Drop)]
+#[derive(Clone, Copy)]
 pub enum KindRead {
     Got(Kind),
     Unknown,

@@ -10,13 +10,13 @@ use crate::number::Put;
 use crate::time::Ticks;
 
 // The state byte that an item shows.
-#[derive(Drop)]
+#[derive(Clone, Copy)]
 pub enum State {
     Byte(u8),
     Absent,
 }
 
-#[derive(Drop)]
+#[derive(Clone, Copy)]
 pub struct Item {
     pub offset: Ticks,
     pub network: u8,

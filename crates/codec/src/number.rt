@@ -3,31 +3,31 @@ ghost use Rattle.std.specs.Prelude.{◌≡◌, true, ◌+◌, ◌≤◌, ◌%◌
 ghost use Rattle.codec.specs.Number.{Wrote, Small, Word, be, word_at, word, get8_of, get16_of, get32_of, part_of};
 
 // Where a write ended, or nothing was written.
-#[derive(Drop)]
+#[derive(Clone, Copy)]
 pub enum Put {
     Next(usize),
     Nothing,
 }
 
-#[derive(Drop)]
+#[derive(Clone, Copy)]
 pub enum Read8 {
     Got(u8, usize),
     Short,
 }
 
-#[derive(Drop)]
+#[derive(Clone, Copy)]
 pub enum Read16 {
     Got(u16, usize),
     Short,
 }
 
-#[derive(Drop)]
+#[derive(Clone, Copy)]
 pub enum Read32 {
     Got(u32, usize),
     Short,
 }
 
-#[derive(Drop)]
+#[derive(Clone, Copy)]
 pub enum Part {
     Got(usize),
     Short,

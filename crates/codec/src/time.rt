@@ -3,23 +3,23 @@ ghost use Rattle.std.specs.Prelude.{◌≡◌, ◌*◌, min};
 ghost use Rattle.codec.specs.Number.{Below};
 ghost use Rattle.codec.specs.Time.{ns, time_ok, ticks_of, millis_of, span_of, elapsed, overdue_of, recovered_of};
 
-#[derive(Drop)]
+#[derive(Clone, Copy)]
 pub struct Ticks(pub u16);
 
-#[derive(Drop)]
+#[derive(Clone, Copy)]
 pub struct Millis(pub u16);
 
-#[derive(Drop)]
+#[derive(Clone, Copy)]
 pub struct Nanos(pub u64);
 
-#[derive(Drop)]
+#[derive(Clone, Copy)]
 pub struct Time {
     pub sec: u64,
     pub nano: u32,
 }
 
 // Backwards by so many nanoseconds, from 1 on.
-#[derive(Drop)]
+#[derive(Clone, Copy)]
 pub enum Elapsed {
     Ticks(Ticks),
     TooFar,
@@ -27,7 +27,7 @@ pub enum Elapsed {
 }
 
 // The time from one reading to another; past a hundred seconds no rule asks how long.
-#[derive(Drop)]
+#[derive(Clone, Copy)]
 enum Span {
     Nanos(Nanos),
     Far,

@@ -1,3 +1,5 @@
+#![tactic(auto)]
+
 pub mod framer;
 pub mod meter;
 pub mod offer;

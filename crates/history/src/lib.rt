@@ -1,1 +1,2 @@
 // Definitions in specs/, theorems in proofs/: this crate has no code.
+#![tactic(auto)]

@@ -1,5 +1,7 @@
 // Lists, checks or mends a recording from standard input, in the pieces that reading gives, on standard output: one
 // program behind three names.
+#![tactic(auto)]
+
 mod input;
 mod job;
 

@@ -1,4 +1,6 @@
 // The lines of a listing: what the program that lists a recording writes of each thing that it finds.
+#![tactic(auto)]
+
 mod digit;
 mod escape;
 mod field;

@@ -1,3 +1,5 @@
+#![tactic(auto)]
+
 pub mod engine;
 pub mod failed;
 pub mod report;

@@ -1,4 +1,6 @@
 // The reader: judges a whole frame before it hands anything out, then yields header, items and payloads.
+#![tactic(auto)]
+
 mod answer;
 mod copy;
 mod frame;

@@ -1,5 +1,7 @@
 // Answers a call script from standard input, one line for each call, on standard output. Called `record`,
 // it makes a recording of it on standard output, and answers on standard error.
+#![tactic(auto)]
+
 mod call;
 mod engine;
 mod input;

@@ -1,4 +1,6 @@
 // The call script: which call a line names, and how its answer reads.
+#![tactic(auto)]
+
 pub mod answer;
 pub mod call;
 mod long;

@@ -1,4 +1,6 @@
 // The text of a call script: lines, words, numbers and bytes, read and written.
+#![tactic(auto)]
+
 pub mod bytes;
 pub mod digit;
 pub mod line;
