@@ -98,6 +98,7 @@ fn key_matches(f: Filter, key: u32) -> bool
 }
 
 // A cycle is counted from the start of its repetition; a repetition of 0 has none.
+#[tactic(auto, unfolding(crate::specs::Filter::cycled))]
 fn cycle_matches(cycle: u8, low: u8, high: u8, repetition: u8) -> bool
     ensures { result ≡ cycled cycle low high repetition }
 {
@@ -214,12 +215,14 @@ pub fn is_free(f: Filter) -> bool
     }
 }
 
+#[tactic(auto, unfolding(crate::specs::Filter::same_kind))]
 pub fn same_kind(a: Kind, b: Kind) -> bool
     ensures { result ≡ same_kind a b }
 {
     codec::ident::network_type(a) == codec::ident::network_type(b)
 }
 
+#[tactic(auto, unfolding(crate::specs::Filter::can_mask))]
 pub fn can_mask(source: u64, mask: u32, code: u32) -> Addition
     ensures { result ≡ can_mask source mask code }
 {
@@ -231,6 +234,7 @@ pub fn can_mask(source: u64, mask: u32, code: u32) -> Addition
     }
 }
 
+#[tactic(auto, unfolding(crate::specs::Filter::can_range))]
 pub fn can_range(source: u64, lower: u32, upper: u32) -> Addition
     ensures { result ≡ can_range source lower upper }
 {
@@ -242,6 +246,7 @@ pub fn can_range(source: u64, lower: u32, upper: u32) -> Addition
     }
 }
 
+#[tactic(auto, unfolding(crate::specs::Filter::lin_mask))]
 pub fn lin_mask(source: u64, mask: u32, code: u32) -> Addition
     ensures { result ≡ lin_mask source mask code }
 {
@@ -253,6 +258,7 @@ pub fn lin_mask(source: u64, mask: u32, code: u32) -> Addition
     }
 }
 
+#[tactic(auto, unfolding(crate::specs::Filter::lin_range))]
 pub fn lin_range(source: u64, lower: u32, upper: u32) -> Addition
     ensures { result ≡ lin_range source lower upper }
 {
@@ -264,6 +270,7 @@ pub fn lin_range(source: u64, lower: u32, upper: u32) -> Addition
     }
 }
 
+#[tactic(auto, unfolding(crate::specs::Filter::slots_of))]
 pub fn slots(
     source: u64,
     low: u32,

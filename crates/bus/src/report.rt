@@ -23,12 +23,14 @@ pub struct Report {
     pub raised: u8,
 }
 
+#[tactic(auto, unfolding(codec::specs::Ident::flexray_range))]
 fn flexray_ok(channels: u32, slot: u32, cycle: u32) -> bool
     ensures { result ≡ flexray_range channels slot cycle }
 {
     (1 <= channels) & (channels <= 3) & (1 <= slot) & (slot <= 2047) & (cycle <= 63)
 }
 
+#[tactic(auto, unfolding(crate::specs::Report::can_report))]
 pub fn can(source: u64, time: Time, key: u32) -> Report
     ensures { result ≡ can_report source time key }
 {
@@ -44,6 +46,7 @@ pub fn can(source: u64, time: Time, key: u32) -> Report
     }
 }
 
+#[tactic(auto, unfolding(crate::specs::Report::lin_report))]
 pub fn lin(source: u64, time: Time, pid: u32, errors: u32) -> Report
     ensures { result ≡ lin_report source time pid errors }
 {
@@ -59,6 +62,7 @@ pub fn lin(source: u64, time: Time, pid: u32, errors: u32) -> Report
 }
 
 // A frame of FlexRay, or where it carries nothing a conflict in sending it, which raises bit 0.
+#[tactic(auto, unfolding(crate::specs::Report::flexray_report))]
 fn flexray_report(
     source: u64,
     time: Time,
@@ -99,6 +103,7 @@ pub fn conflict(source: u64, time: Time, channels: u32, slot: u32, cycle: u32) -
 }
 
 // Bits 3 to 1: syntax error, content error, boundary violation.
+#[tactic(auto, unfolding(crate::specs::Report::error_bits))]
 fn error_bits(bits: u32) -> bool
     ensures { result ≡ error_bits bits }
 {
@@ -106,6 +111,7 @@ fn error_bits(bits: u32) -> bool
 }
 
 // An error on channels of FlexRay that belongs to no frame.
+#[tactic(auto, unfolding(crate::specs::Report::error_report))]
 pub fn error(source: u64, time: Time, channels: u32, bits: u32) -> Report
     ensures { result ≡ error_report source time channels bits }
 {
@@ -121,6 +127,7 @@ pub fn error(source: u64, time: Time, channels: u32, bits: u32) -> Report
 }
 
 // The item counted with a state byte, after a header, exceeds a frame of f bytes.
+#[tactic(auto, unfolding(crate::specs::Report::too_big))]
 fn too_big(f: usize, r: Report, n: u8) -> bool
     ensures { result ≡ too_big f r n }
 {
@@ -136,6 +143,7 @@ fn too_big(f: usize, r: Report, n: u8) -> bool
 }
 
 // 7, 2, 4, 3, 5, 6
+#[tactic(auto, unfolding(crate::specs::Report::early_cause))]
 fn early_cause(count: usize, s: Source, r: Report, n: usize) -> u8
     ensures { result ≡ early_cause count s r n 0 }
 {
@@ -154,6 +162,7 @@ fn early_cause(count: usize, s: Source, r: Report, n: usize) -> u8
 }
 
 // 1, 8
+#[tactic(auto, unfolding(crate::specs::Report::late_cause))]
 fn late_cause(f: usize, s: Source, r: Report, n: u8) -> u8
     ensures { result ≡ late_cause f s r n }
 {
@@ -163,6 +172,7 @@ fn late_cause(f: usize, s: Source, r: Report, n: u8) -> u8
 }
 
 // The first cause of refusing the report, with a payload of n bytes, to a frame of at most f bytes, or 0.
+#[tactic(auto, unfolding(crate::specs::Report::report_cause))]
 pub fn report_cause(count: usize, f: usize, s: Source, r: Report, n: usize) -> u8
     ensures { result ≡ report_cause count f s r n }
 {
@@ -174,6 +184,7 @@ pub fn report_cause(count: usize, f: usize, s: Source, r: Report, n: usize) -> u
 }
 
 // The frame-bound bits written into the current byte.
+#[tactic(auto, unfolding(crate::specs::Report::noted))]
 fn note(s: Source, r: Report) -> Source
     ensures { result ≡ noted s r }
 {
@@ -190,6 +201,7 @@ fn insists(r: Report) -> bool
     (0 < r.raised) | !r.carries
 }
 
+#[tactic(auto, unfolding(crate::specs::Report::offer_of))]
 pub fn offer(s: Source, r: Report) -> Offer
     ensures { result ≡ offer_of s r }
 {
@@ -205,6 +217,7 @@ pub fn offer(s: Source, r: Report) -> Offer
 }
 
 // After the item the frame-bound bits are clear again, and what was shown is remembered.
+#[tactic(auto, unfolding(crate::specs::Report::settled, crate::specs::Report::noted, crate::specs::Report::offer_of))]
 pub fn settle(s: Source, r: Report) -> Source
     ensures { result ≡ settled s r }
 {

@@ -24,6 +24,7 @@ pub struct Source {
     pub places: [Place; 8],
 }
 
+#[tactic(auto, unfolding(crate::specs::Source::fresh_source))]
 pub fn fresh(kind: Kind, network: u8) -> Source
     ensures { result ≡ fresh_source kind network }
 {
@@ -51,6 +52,7 @@ pub fn first(bad: bool, answer: u8, rest: u8) -> u8
 }
 
 impl Source {
+    #[tactic(auto, unfolding(crate::specs::Source::reset_source))]
     pub fn reset(self) -> Source
         ensures { result ≡ reset_source self }
     {
@@ -58,6 +60,7 @@ impl Source {
         fresh(kind, self.network)
     }
 
+    #[tactic(auto, unfolding(crate::specs::Source::started_source))]
     pub fn start(mut self) -> Source
         ensures { result ≡ started_source self }
     {
@@ -69,6 +72,7 @@ impl Source {
         self
     }
 
+    #[tactic(auto, unfolding(crate::specs::Source::stopped_source))]
     pub fn stop(mut self) -> Source
         ensures { result ≡ stopped_source self }
     {
@@ -113,6 +117,7 @@ impl Source {
     }
 
     // 2, 4, 9, 10
+    #[tactic(auto, unfolding(crate::specs::Source::add_cause))]
     pub fn add_cause(self, count: usize, a: Addition) -> u8
         ensures { result ≡ add_cause count self a }
     {
@@ -125,6 +130,7 @@ impl Source {
     }
 
     // The filter goes to the lowest free place, if there is one.
+    #[tactic(auto, unfolding(crate::specs::Source::added_filter))]
     pub fn add_filter(mut self, filter: Filter) -> Source
         ensures { result ≡ added_filter self filter }
     {
@@ -137,6 +143,7 @@ impl Source {
     }
 
     // 11
+    #[tactic(auto, unfolding(crate::specs::Source::remove_cause))]
     pub fn remove_cause(self, number: u64) -> u8
         ensures { result ≡ remove_cause self number }
     {
@@ -148,6 +155,7 @@ impl Source {
         first(crate::filter::is_free(filter), 11, 0)
     }
 
+    #[tactic(auto, unfolding(crate::specs::Source::removed_filter))]
     pub fn remove_filter(mut self, number: u64) -> Source
         ensures { result ≡ removed_filter self number }
     {
@@ -161,18 +169,21 @@ impl Source {
     }
 
     // Known, and never shown or not what was shown last.
+    #[tactic(auto, unfolding(crate::specs::Source::due))]
     pub fn due(self) -> bool
         ensures { result ≡ due self }
     {
         self.known & !(self.told & (self.shown == self.state))
     }
 
+    #[tactic(auto, unfolding(crate::specs::Source::tick_due))]
     pub fn tick_due(self) -> bool
         ensures { result ≡ tick_due self }
     {
         self.started & self.due() & !self.heard
     }
 
+    #[tactic(auto, unfolding(crate::specs::Source::state_offer))]
     pub fn state_offer(self) -> Offer
         ensures { result ≡ state_offer self }
     {
@@ -187,6 +198,7 @@ impl Source {
     }
 
     // What a tick leaves of the source, whether or not it showed its state.
+    #[tactic(auto, unfolding(crate::specs::Source::calmed))]
     pub fn calm(mut self) -> Source
         ensures { result ≡ calmed self }
     {

@@ -16,6 +16,7 @@ pub struct Update {
 }
 
 // The Tx error counter in four bits, which cannot hold 31.
+#[tactic(auto, unfolding(crate::specs::Update::counter_bits))]
 fn counter_bits(counter: u32) -> u8
     ensures { Below (counter_bits counter) 16 result }
 {
@@ -23,6 +24,7 @@ fn counter_bits(counter: u32) -> u8
     if eighth <= 15 { eighth as u8 } else { 15 }
 }
 
+#[tactic(auto, unfolding(crate::specs::Update::can_byte))]
 fn can_byte(online: bool, passive: bool, bus_off: bool, counter: u32) -> u8
     ensures { result ≡ can_byte online passive bus_off counter }
 {
@@ -32,6 +34,7 @@ fn can_byte(online: bool, passive: bool, bus_off: bool, counter: u32) -> u8
     64 | (passive as u8) << 5 | (bus_off as u8) << 4 | counter_bits(counter)
 }
 
+#[tactic(auto, unfolding(crate::specs::Update::can_update))]
 pub fn can(source: u64, online: bool, passive: bool, bus_off: bool, counter: u32) -> Update
     ensures { result ≡ can_update source online passive bus_off counter }
 {
@@ -43,6 +46,7 @@ pub fn can(source: u64, online: bool, passive: bool, bus_off: bool, counter: u32
     }
 }
 
+#[tactic(auto, unfolding(crate::specs::Update::lin_update))]
 pub fn lin(source: u64, online: bool) -> Update
     ensures { result ≡ lin_update source online }
 {
@@ -55,6 +59,7 @@ pub fn lin(source: u64, online: bool) -> Update
 }
 
 // The four low bits are bound to reports: three to errors without a frame, the lowest to a conflict.
+#[tactic(auto, unfolding(crate::specs::Update::flexray_update))]
 pub fn flexray(source: u64, online: bool, bits: u32) -> Update
     ensures { result ≡ flexray_update source online bits }
 {
@@ -67,6 +72,7 @@ pub fn flexray(source: u64, online: bool, bits: u32) -> Update
 }
 
 // 2, 4, 3, 5
+#[tactic(auto, unfolding(crate::specs::Update::update_cause))]
 pub fn update_cause(count: usize, s: Source, u: Update) -> u8
     ensures { result ≡ update_cause count s u }
 {
@@ -78,6 +84,7 @@ pub fn update_cause(count: usize, s: Source, u: Update) -> u8
     crate::source::first(count as u64 <= u.source, 2, kind)
 }
 
+#[tactic(auto, unfolding(crate::specs::Update::updated))]
 pub fn apply(s: Source, u: Update) -> Source
     ensures { result ≡ updated s u }
 {

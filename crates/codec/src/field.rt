@@ -45,6 +45,7 @@ pub enum ItemRead {
 }
 
 // The network type and which of state, id and payload are present.
+#[tactic(auto, unfolding(crate::specs::Field::read_flags))]
 pub fn read_flags(s: &[u8], at: usize) -> FlagsRead
     ensures { result ≡ read_flags s.now at }
 {
@@ -62,6 +63,7 @@ pub fn read_flags(s: &[u8], at: usize) -> FlagsRead
     }
 }
 
+#[tactic(auto, unfolding(crate::specs::Field::read_state))]
 pub fn read_state(s: &[u8], at: usize, kind: Kind, present: bool) -> StateRead
     ensures { result ≡ read_state s.now at kind present }
 {
@@ -79,6 +81,7 @@ pub fn read_state(s: &[u8], at: usize, kind: Kind, present: bool) -> StateRead
     }
 }
 
+#[tactic(auto, unfolding(crate::specs::Field::can_ident))]
 fn can_ident(key: u32, next: usize) -> IdentRead
     ensures { result ≡ can_ident key next }
 {
@@ -92,6 +95,7 @@ fn can_ident(key: u32, next: usize) -> IdentRead
     }
 }
 
+#[tactic(auto, unfolding(crate::specs::Field::read_can))]
 fn read_can(s: &[u8], at: usize) -> IdentRead
     ensures { result ≡ read_can s.now at }
 {
@@ -101,6 +105,7 @@ fn read_can(s: &[u8], at: usize) -> IdentRead
     can_ident(key, next)
 }
 
+#[tactic(auto, unfolding(crate::specs::Field::lin_ident))]
 fn lin_ident(pid: u8, next: usize) -> IdentRead
     ensures { result ≡ lin_ident pid next }
 {
@@ -111,6 +116,7 @@ fn lin_ident(pid: u8, next: usize) -> IdentRead
     }
 }
 
+#[tactic(auto, unfolding(crate::specs::Field::read_lin))]
 fn read_lin(s: &[u8], at: usize) -> IdentRead
     ensures { result ≡ read_lin s.now at }
 {
@@ -120,6 +126,7 @@ fn read_lin(s: &[u8], at: usize) -> IdentRead
     lin_ident(pid, next)
 }
 
+#[tactic(auto, unfolding(crate::specs::Field::frame_ident))]
 fn frame_ident(channels: u8, slot: u16, cycle: u8, next: usize) -> IdentRead
     ensures { result ≡ frame_ident channels slot cycle next }
 {
@@ -137,6 +144,7 @@ fn frame_ident(channels: u8, slot: u16, cycle: u8, next: usize) -> IdentRead
     }
 }
 
+#[tactic(auto, unfolding(crate::specs::Field::error_ident))]
 fn error_ident(channels: u8, slot: u16, cycle: u8, next: usize) -> IdentRead
     ensures { result ≡ error_ident channels slot cycle next }
 {
@@ -149,6 +157,7 @@ fn error_ident(channels: u8, slot: u16, cycle: u8, next: usize) -> IdentRead
 
 // Bits 5 and 4 of the first byte are zero; bit 3 is one, or zero for an error without a frame, which is told by state
 // and id alone.
+#[tactic(auto, unfolding(crate::specs::Field::flexray_ident))]
 fn flexray_ident(alone: bool, front: u8, low: u8, cycle: u8, next: usize) -> IdentRead
     ensures { result ≡ flexray_ident alone front low cycle next }
 {
@@ -164,6 +173,7 @@ fn flexray_ident(alone: bool, front: u8, low: u8, cycle: u8, next: usize) -> Ide
     IdentRead::Refused(Refusal::Reserved)
 }
 
+#[tactic(auto, unfolding(crate::specs::Field::read_flexray))]
 fn read_flexray(s: &[u8], at: usize, alone: bool) -> IdentRead
     ensures { result ≡ read_flexray s.now at alone }
 {
@@ -174,6 +184,7 @@ fn read_flexray(s: &[u8], at: usize, alone: bool) -> IdentRead
 }
 
 // Alone: the item has state and id, and nothing else.
+#[tactic(auto, unfolding(crate::specs::Field::read_ident))]
 pub fn read_ident(s: &[u8], at: usize, kind: Kind, present: bool, alone: bool) -> IdentRead
     ensures { result ≡ read_ident s.now at kind present alone }
 {
@@ -187,6 +198,7 @@ pub fn read_ident(s: &[u8], at: usize, kind: Kind, present: bool, alone: bool) -
     }
 }
 
+#[tactic(auto, unfolding(crate::specs::Field::read_load))]
 pub fn read_load(s: &[u8], at: usize, most: usize, present: bool) -> LoadRead
     ensures { result ≡ read_load s.now at most present }
 {
@@ -242,6 +254,7 @@ fn why_load(r: LoadRead) -> ItemRead
     }
 }
 
+#[tactic(auto, unfolding(crate::specs::Field::read_item))]
 pub fn read_item(s: &[u8], at: usize) -> ItemRead
     ensures { result ≡ read_item s.now at }
 {
@@ -283,6 +296,7 @@ pub fn read_item(s: &[u8], at: usize) -> ItemRead
 }
 
 // The n bytes of s from index start, as that very part of s; nothing where they are not all there.
+#[tactic(auto, unfolding(crate::specs::Field::bytes_at))]
 pub fn part_at(s: &[u8], start: usize, n: usize) -> &[u8]
     ensures { result.now ≡ bytes_at s.now start n }
 {

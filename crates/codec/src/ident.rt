@@ -37,6 +37,7 @@ pub fn network_type(k: Kind) -> u8
     }
 }
 
+#[tactic(auto, unfolding(crate::specs::Ident::kind_in))]
 pub fn kind_in(n: u8) -> KindRead
     ensures { result ≡ kind_in n }
 {
@@ -69,6 +70,7 @@ pub fn kind_of(id: Ident) -> Kind
 }
 
 // Bit 29 of a CAN key is zero.
+#[tactic(auto, unfolding(crate::specs::Ident::can_zero))]
 pub fn can_zero(key: u32) -> bool
     ensures { result ≡ can_zero key }
 {
@@ -76,12 +78,14 @@ pub fn can_zero(key: u32) -> bool
 }
 
 // An extended id, or a standard one of at most 11 bits.
+#[tactic(auto, unfolding(crate::specs::Ident::can_range))]
 pub fn can_range(key: u32) -> bool
     ensures { result ≡ can_range key }
 {
     (key >> 31 == 1) | (key & 0x1fff_ffff <= 2047)
 }
 
+#[tactic(auto, unfolding(crate::specs::Ident::can_fd))]
 pub fn can_fd(key: u32) -> bool
     ensures { result ≡ can_fd key }
 {
@@ -104,6 +108,7 @@ pub fn channels_ok(channels: u32) -> bool
     (1 <= channels) & (channels <= 3)
 }
 
+#[tactic(auto, unfolding(crate::specs::Ident::flexray_range))]
 pub fn flexray_range(channels: u8, slot: u16, cycle: u8) -> bool
     ensures { result ≡ flexray_range channels slot cycle }
 {

@@ -82,6 +82,7 @@ fn set_for(ident: Ident, set: u8) -> bool
 }
 
 // Bits 5 and 4 of a LIN state byte are zero.
+#[tactic(auto, unfolding(crate::specs::Item::lin_zero))]
 pub fn lin_zero(state: u8) -> bool
     ensures { result ≡ lin_zero state }
 {
@@ -114,6 +115,7 @@ fn load_ok(carries: bool, most: usize, n: usize) -> bool
 }
 
 // A flag set that goes with the id, reserved bits right, the id in range and the payload no longer than allowed.
+#[tactic(auto, unfolding(crate::specs::Item::item_ok))]
 pub fn item_ok(item: Item, n: usize) -> bool
     ensures { result ≡ item_ok item n }
 {

@@ -114,6 +114,7 @@ pub fn word_at(s: &[u8], at: usize, n: usize) -> u64
     word_be(s, at, n)
 }
 
+#[tactic(auto, unfolding(crate::specs::Number::get8_of))]
 pub fn get8(s: &[u8], at: usize) -> Read8
     ensures { result ≡ get8_of s.now at }
 {
@@ -126,6 +127,7 @@ pub fn get8(s: &[u8], at: usize) -> Read8
     Read8::Got(s[at], at + 1)
 }
 
+#[tactic(auto, unfolding(crate::specs::Number::get16_of))]
 pub fn get16(s: &[u8], at: usize) -> Read16
     ensures { result ≡ get16_of s.now at }
 {
@@ -138,6 +140,7 @@ pub fn get16(s: &[u8], at: usize) -> Read16
     Read16::Got(word_be(s, at, 2) as u16, at + 2)
 }
 
+#[tactic(auto, unfolding(crate::specs::Number::get32_of))]
 pub fn get32(s: &[u8], at: usize) -> Read32
     ensures { result ≡ get32_of s.now at }
 {
@@ -151,6 +154,7 @@ pub fn get32(s: &[u8], at: usize) -> Read32
 }
 
 // The index past n bytes at index at.
+#[tactic(auto, unfolding(crate::specs::Number::part_of))]
 pub fn get_part(s: &[u8], at: usize, n: usize) -> Part
     ensures { result ≡ part_of s.now at n }
 {

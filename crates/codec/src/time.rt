@@ -40,6 +40,7 @@ pub fn in_range(t: Time) -> bool
     (t.sec <= 281474976710655) & (t.nano <= 999999999)
 }
 
+#[tactic(auto, unfolding(crate::specs::Time::ticks_of))]
 pub fn ticks_of_nanos(n: Nanos) -> Elapsed
     ensures { result ≡ ticks_of n.0 }
 {

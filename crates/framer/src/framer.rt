@@ -25,6 +25,7 @@ pub struct Taken {
     pub length: usize,
 }
 
+#[tactic(auto, unfolding(crate::specs::Framer::empty_framer))]
 pub fn empty(size: usize, room: usize, deadline: Millis) -> Framer
     ensures { result ≡ empty_framer size room deadline }
 {
@@ -36,6 +37,7 @@ pub fn empty(size: usize, room: usize, deadline: Millis) -> Framer
 }
 
 // The header goes first into an empty frame; DataLength follows with each item.
+#[tactic(auto, unfolding(crate::specs::Framer::begun, crate::specs::Framer::written, crate::specs::Meter::start_of))]
 fn begin(bytes: &mut [u8; 1024], m: Meter, t: Time) -> usize
     ensures { (result ≡ start_of m) × (bytes.new ≡ begun bytes.old m t) }
 {
@@ -51,6 +53,7 @@ fn begin(bytes: &mut [u8; 1024], m: Meter, t: Time) -> usize
     14
 }
 
+#[tactic(auto, unfolding(crate::specs::Framer::laid_out, crate::specs::Framer::written))]
 fn lay(bytes: &mut [u8; 1024], at: usize, item: Item, payload: &[u8], total: usize)
     ensures { bytes.new ≡ laid_out bytes.old at item payload.now total }
 {
@@ -58,6 +61,7 @@ fn lay(bytes: &mut [u8; 1024], at: usize, item: Item, payload: &[u8], total: usi
     codec::number::put_be(bytes, 12, total as u64, 2);
 }
 
+#[tactic(auto, unfolding(crate::specs::Meter::placed_meter))]
 fn placed_meter(m: Meter, t: Time, n: usize) -> Meter
     requires filled_bound { m.filled ≤ 1024 }
     requires n_bound { n ≤ 265 }
@@ -185,6 +189,7 @@ impl Framer {
     }
 
     // The frame that is out was not sent; a framer with none out stays as it is.
+    #[tactic(auto, unfolding(crate::specs::Framer::failed))]
     pub fn fail(mut self) -> Framer
         ensures { result ≡ failed self }
     {

@@ -29,6 +29,7 @@ pub struct Meter {
 }
 
 // The part of the soundness rule that is the framer's.
+#[tactic(auto, unfolding(crate::specs::Meter::sound_meter))]
 pub fn sound(m: Meter) -> bool
     ensures { result ≡ sound_meter m }
 {
@@ -45,12 +46,14 @@ pub fn sound(m: Meter) -> bool
         & (m.waiting <= m.room)
 }
 
+#[tactic(auto, unfolding(crate::specs::Meter::limits_ok))]
 pub fn limits_ok(size: u64, room: u64, deadline: u64) -> bool
     ensures { result ≡ limits_ok size room deadline }
 {
     (32 <= size) & (size <= 1024) & (1 <= room) & (room <= 8) & (deadline <= 655)
 }
 
+#[tactic(auto, unfolding(crate::specs::Meter::empty_meter))]
 pub(crate) fn empty_meter(size: usize, room: usize, deadline: Millis) -> Meter
     ensures { result ≡ empty_meter size room deadline }
 {
@@ -101,6 +104,7 @@ fn back_in(e: Elapsed) -> Nanos
 }
 
 // The state byte is shown where it is due or something was lost, which sets its bit 7.
+#[tactic(auto, unfolding(crate::specs::Meter::state_shown))]
 fn state_shown(lost: bool, o: Offer) -> State
     ensures { result ≡ state_shown lost o }
 {
@@ -113,6 +117,7 @@ fn state_shown(lost: bool, o: Offer) -> State
     State::Absent
 }
 
+#[tactic(auto, unfolding(crate::specs::Meter::item_of))]
 fn item_of(lost: bool, offset: Ticks, o: Offer) -> Item
     ensures { result ≡ item_of lost offset o }
 {
@@ -127,6 +132,7 @@ fn item_of(lost: bool, offset: Ticks, o: Offer) -> Item
 }
 
 // An empty frame takes its header time from its first item.
+#[tactic(auto, unfolding(crate::specs::Meter::offset_for))]
 fn offset_for(m: Meter, t: Time) -> Ticks
     ensures { result ≡ offset_for m t }
 {
@@ -137,6 +143,7 @@ fn offset_for(m: Meter, t: Time) -> Ticks
 }
 
 // How far a clock that reads t stands behind the header time; an empty frame has none to be behind.
+#[tactic(auto, unfolding(crate::specs::Meter::back_for))]
 pub fn back_for(m: Meter, t: Time) -> Nanos
     ensures { result ≡ back_for m t }
 {
@@ -171,6 +178,7 @@ pub(crate) fn closes(m: Meter, t: Time, o: Offer, n: u8) -> bool
 }
 
 // The slot behind the last waiting frame; eight slots in a ring.
+#[tactic(auto, unfolding(crate::specs::Meter::slot_of))]
 pub(crate) fn slot(m: Meter) -> usize
     ensures { Below (slot_of m) 8 result }
 {
@@ -178,6 +186,7 @@ pub(crate) fn slot(m: Meter) -> usize
 }
 
 // One more loss, stopping at the last number that 32 bits hold.
+#[tactic(auto, unfolding(crate::specs::Meter::counted))]
 fn counted(losses: u32) -> u32
     ensures { result ≡ counted losses }
 {
@@ -189,6 +198,7 @@ fn counted(losses: u32) -> u32
 }
 
 // What closing the frame leaves of the numbers: it waits if there is room, else it is lost.
+#[tactic(auto, unfolding(crate::specs::Meter::closed_meter))]
 pub(crate) fn closed_meter(m: Meter) -> Meter
     ensures { result ≡ closed_meter m }
 {
@@ -204,6 +214,7 @@ pub(crate) fn closed_meter(m: Meter) -> Meter
 }
 
 // The next frame in the ring is the oldest; asked only where one waits.
+#[tactic(auto, unfolding(crate::specs::Meter::taken_meter))]
 pub(crate) fn taken_meter(m: Meter) -> Meter
     ensures { result ≡ taken_meter m }
 {

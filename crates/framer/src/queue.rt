@@ -9,6 +9,7 @@ pub struct Queue {
     pub lengths: [u16; 8],
 }
 
+#[tactic(auto, unfolding(crate::specs::Queue::empty_queue))]
 pub(crate) fn empty_queue() -> Queue
     ensures { result ≡ empty_queue }
 {
@@ -44,6 +45,7 @@ impl Queue {
     }
 
     // No frame is longer than its slot.
+    #[tactic(auto, unfolding(crate::specs::Queue::length_at))]
     pub(crate) fn length_at(self, slot: usize) -> usize
         ensures { Below (length_at self slot) 1025 result }
     {

@@ -3,6 +3,7 @@ ghost use Rattle.std.specs.Prelude.{◌≡◌, ◌+◌, ◌*◌, ◌<◌, ◌≤
 ghost use Rattle.text.specs.Short.{Short};
 ghost use Rattle.listing.specs.Line.{capital_of, fixed_of, spread};
 
+#[tactic(auto, unfolding(crate::specs::Line::capital_of))]
 fn capital(v: u64) -> u8
     requires { v < 16 }
     ensures { result ≡ capital_of v }

@@ -7,12 +7,14 @@ ghost use Rattle.listing.specs.Line.{plain, escape_of, spread, note_fits, note_l
 use codec::number::Put;
 
 // A byte that stands for itself. A backslash (92) starts an escape, so it is escaped too.
+#[tactic(auto, unfolding(crate::specs::Line::plain))]
 fn plain(b: u8) -> bool
     ensures { result ≡ plain b }
 {
     (32 <= b) & (b <= 126) & (b != 92)
 }
 
+#[tactic(auto, unfolding(crate::specs::Line::escape_of))]
 fn width(b: u8) -> usize
     ensures { Sized (escape_of b) 4 result }
 {
@@ -34,6 +36,7 @@ fn lay_byte(out: &mut [u8], at: usize, b: u8) -> usize
 }
 
 // The escaped text fits so many places. Taken from them byte by byte: the sum itself may be too large to hold.
+#[tactic(auto, unfolding(crate::specs::Line::note_fits))]
 fn fits(src: &[u8], room: usize) -> bool
     ensures { result ≡ note_fits src.now room }
 {
@@ -63,6 +66,7 @@ fn lay_bytes(out: &mut [u8], at: usize, src: &[u8]) -> usize
     k
 }
 
+#[tactic(auto, unfolding(crate::specs::Line::note_line))]
 pub fn note(out: &mut [u8], at: usize, text: &[u8]) -> Put
     ensures { Wrote true out.old at (note_line text.now) out.new result }
 {

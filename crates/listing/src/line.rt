@@ -12,6 +12,7 @@ use codec::number::Put;
 use codec::time::Time;
 use tape::Microphone;
 
+#[tactic(auto, unfolding(crate::specs::Line::frame_line))]
 fn lay_frame(out: &mut [u8], h: Header) -> usize
     requires { 256 ≤ length out.old }
     ensures { Short 256 out.old 0 (frame_line h) out.new result }
@@ -32,6 +33,7 @@ pub fn frame(out: &mut [u8], at: usize, h: Header) -> Put
     codec::number::put_bytes(out, at, &text[..n])
 }
 
+#[tactic(auto, unfolding(crate::specs::Line::start_line))]
 fn lay_start(out: &mut [u8], t: Time) -> usize
     requires { 256 ≤ length out.old }
     ensures { Short 256 out.old 0 (start_line t) out.new result }
@@ -49,6 +51,7 @@ pub fn start(out: &mut [u8], at: usize, t: Time) -> Put
     codec::number::put_bytes(out, at, &text[..n])
 }
 
+#[tactic(auto, unfolding(crate::specs::Line::pair_line))]
 fn lay_pair(out: &mut [u8], name: &[u8], a: u64, b: u64) -> usize
     requires name_len_bound { length name.now ≤ 8 }
     requires in_bounds { 256 ≤ length out.old }
@@ -88,6 +91,7 @@ pub fn end(out: &mut [u8], at: usize, answer: u8, skipped: u32) -> Put
     pair(out, at, b"end", answer as u64, skipped as u64)
 }
 
+#[tactic(auto, unfolding(crate::specs::Line::place_text))]
 fn lay_place(out: &mut [u8], microphone: Microphone, t: Time, it: Item) -> usize
     requires { 256 ≤ length out.old }
     ensures { Short 85 out.old 0 (place_text microphone t it) out.new result }
@@ -100,6 +104,7 @@ fn lay_place(out: &mut [u8], microphone: Microphone, t: Time, it: Item) -> usize
     crate::word::field(out, e, it.network as u64)
 }
 
+#[tactic(auto, unfolding(crate::specs::Line::shown_text))]
 fn lay_shown(out: &mut [u8], at: usize, it: Item, n: usize) -> usize
     requires { at + 76 ≤ length out.old }
     ensures { Short 76 out.old at (shown_text it n) out.new result }
@@ -113,6 +118,7 @@ fn lay_shown(out: &mut [u8], at: usize, it: Item, n: usize) -> usize
 }
 
 // What stands before an item's bytes.
+#[tactic(auto, unfolding(crate::specs::Line::front_text))]
 fn lay_front(out: &mut [u8], microphone: Microphone, t: Time, it: Item, n: usize) -> usize
     requires { 256 ≤ length out.old }
     ensures { Short 161 out.old 0 (front_text microphone t it n) out.new result }

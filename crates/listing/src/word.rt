@@ -30,6 +30,7 @@ fn number(out: &mut [u8], at: usize, v: u64) -> usize
     }
 }
 
+#[tactic(auto, unfolding(crate::specs::Line::field_text))]
 pub(crate) fn field(out: &mut [u8], at: usize, v: u64) -> usize
     requires { at + 21 ≤ length out.old }
     ensures { Short 21 out.old at (field_text v) out.new result }
@@ -38,6 +39,7 @@ pub(crate) fn field(out: &mut [u8], at: usize, v: u64) -> usize
     number(out, start, v)
 }
 
+#[tactic(auto, unfolding(crate::specs::Line::hex_text))]
 fn hex(out: &mut [u8], at: usize, n: usize, v: u64) -> usize
     requires n_bound { n ≤ 8 }
     requires at_in_bounds { at + 9 ≤ length out.old }
@@ -47,6 +49,7 @@ fn hex(out: &mut [u8], at: usize, n: usize, v: u64) -> usize
     crate::digit::fixed(out, start, 16, n, v)
 }
 
+#[tactic(auto, unfolding(crate::specs::Line::time_text))]
 pub(crate) fn time(out: &mut [u8], at: usize, t: Time) -> usize
     requires { at + 31 ≤ length out.old }
     ensures { Short 31 out.old at (time_text t) out.new result }
@@ -73,6 +76,7 @@ fn sign(out: &mut [u8], at: usize, n: i64) -> usize
     lay(out, at, b" ")
 }
 
+#[tactic(auto, unfolding(crate::specs::Line::signed_text))]
 fn signed(out: &mut [u8], at: usize, n: i64) -> usize
     requires { at + 22 ≤ length out.old }
     ensures { Short 22 out.old at (signed_text n) out.new result }
@@ -137,6 +141,7 @@ fn is_fd(id: Ident) -> bool
     }
 }
 
+#[tactic(auto, unfolding(crate::specs::Line::bus_text))]
 pub(crate) fn bus(out: &mut [u8], at: usize, id: Ident) -> usize
     requires { at + 10 ≤ length out.old }
     ensures { Short 10 out.old at (bus_text id) out.new result }
@@ -146,6 +151,7 @@ pub(crate) fn bus(out: &mut [u8], at: usize, id: Ident) -> usize
 }
 
 // Bit 31 of a CAN key: an extended id.
+#[tactic(auto, unfolding(crate::specs::Line::id_digits))]
 fn id_digits(key: u32) -> usize
     ensures { Below (id_digits key) 9 result }
 {
@@ -159,6 +165,7 @@ fn can_id(key: u32) -> u32
     key & 0x1fff_ffff
 }
 
+#[tactic(auto, unfolding(crate::specs::Line::can_text))]
 fn can(out: &mut [u8], at: usize, key: u32) -> usize
     requires { at + 9 ≤ length out.old }
     ensures { Short 9 out.old at (can_text key) out.new result }
@@ -166,6 +173,7 @@ fn can(out: &mut [u8], at: usize, key: u32) -> usize
     hex(out, at, id_digits(key), can_id(key) as u64)
 }
 
+#[tactic(auto, unfolding(crate::specs::Line::channels_text))]
 fn channels(out: &mut [u8], at: usize, c: u8) -> usize
     requires { at + 3 ≤ length out.old }
     ensures { Short 3 out.old at (channels_text c) out.new result }
@@ -175,6 +183,7 @@ fn channels(out: &mut [u8], at: usize, c: u8) -> usize
     shown(out, a, c / 2 % 2 == 1, b"B")
 }
 
+#[tactic(auto, unfolding(crate::specs::Line::flexray_text))]
 fn flexray(out: &mut [u8], at: usize, c: u8, slot: u16, cycle: u8) -> usize
     requires { at + 45 ≤ length out.old }
     ensures { Short 45 out.old at (flexray_text c slot cycle) out.new result }
@@ -186,6 +195,7 @@ fn flexray(out: &mut [u8], at: usize, c: u8, slot: u16, cycle: u8) -> usize
     number(out, e, cycle as u64)
 }
 
+#[tactic(auto, unfolding(crate::specs::Line::error_text))]
 fn error(out: &mut [u8], at: usize, c: u8) -> usize
     requires { at + 7 ≤ length out.old }
     ensures { Short 7 out.old at (error_text c) out.new result }

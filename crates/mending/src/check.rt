@@ -59,6 +59,7 @@ pub fn line(out: &mut [u8], at: usize, field: Field) -> Put
 }
 
 // How many bytes the end has cut off from a field, where it has.
+#[tactic(auto, unfolding(crate::specs::Check::rest_text))]
 pub fn rest(out: &mut [u8], at: usize, place: Place) -> Put
     ensures { Wrote true out.old at (rest_text (sound_of place).past) out.new result }
 {

@@ -26,6 +26,7 @@ fn digits(out: &mut [u8], at: usize, v: u64) -> usize
     }
 }
 
+#[tactic(auto, unfolding(crate::specs::Check::number_text))]
 fn number(out: &mut [u8], at: usize, v: u64) -> usize
     requires { at + 21 ≤ length out.old }
     ensures { Short 21 out.old at (number_text v) out.new result }
@@ -34,6 +35,7 @@ fn number(out: &mut [u8], at: usize, v: u64) -> usize
     digits(out, start, v)
 }
 
+#[tactic(auto, unfolding(crate::specs::Check::two_text))]
 fn two(out: &mut [u8], name: &[u8], a: u64, b: u64) -> usize
     requires name_len_bound { length name.now ≤ 8 }
     requires in_bounds { 128 ≤ length out.old }
@@ -44,6 +46,7 @@ fn two(out: &mut [u8], name: &[u8], a: u64, b: u64) -> usize
     number(out, e, b)
 }
 
+#[tactic(auto, unfolding(crate::specs::Check::pair_line))]
 pub(crate) fn pair(out: &mut [u8], at: usize, name: &[u8], a: u64, b: u64) -> Put
     requires { length name.now ≤ 8 }
     ensures { Wrote true out.old at (pair_line name.now a b) out.new result }
@@ -54,6 +57,7 @@ pub(crate) fn pair(out: &mut [u8], at: usize, name: &[u8], a: u64, b: u64) -> Pu
     codec::number::put_bytes(out, at, &text[..n])
 }
 
+#[tactic(auto, unfolding(crate::specs::Check::triple_line))]
 pub(crate) fn triple(out: &mut [u8], at: usize, name: &[u8], a: u64, b: u64, c: u64) -> Put
     requires { length name.now ≤ 8 }
     ensures { Wrote true out.old at (triple_line name.now a b c) out.new result }

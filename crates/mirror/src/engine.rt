@@ -41,6 +41,7 @@ pub struct Counted {
     pub count: u32,
 }
 
+#[tactic(auto, unfolding(crate::specs::Engine::no_sources))]
 pub(crate) fn no_sources() -> [Source; 8]
     ensures { result ≡ no_sources }
 {
@@ -49,6 +50,7 @@ pub(crate) fn no_sources() -> [Source; 8]
 }
 
 // Before setup there are no sources; the limits are the least, and nothing can reach them.
+#[tactic(auto, unfolding(crate::specs::Engine::fresh_engine))]
 pub fn fresh() -> Engine
     ensures { result ≡ fresh_engine }
 {
@@ -67,6 +69,7 @@ pub(crate) fn sound(count: usize, m: Meter) -> bool
 }
 
 // The place of a source; a number past the eighth has none of its own and is refused by its cause.
+#[tactic(auto, unfolding(crate::specs::Engine::index_of))]
 pub(crate) fn index(source: u64) -> usize
     ensures { Below (index_of source) 8 result }
 {
@@ -74,6 +77,7 @@ pub(crate) fn index(source: u64) -> usize
 }
 
 impl Engine {
+    #[tactic(auto, unfolding(crate::specs::Engine::asked_of, crate::specs::Engine::sound_of))]
     fn asked(self, n: u32) -> Counted
         ensures { result ≡ asked_of self n }
     {
@@ -90,6 +94,7 @@ impl Engine {
         }
     }
 
+    #[tactic(auto, unfolding(crate::specs::Engine::discards_of))]
     pub fn discards(self) -> Counted
         ensures { result ≡ discards_of self }
     {
@@ -97,6 +102,7 @@ impl Engine {
         self.asked(m.discards)
     }
 
+    #[tactic(auto, unfolding(crate::specs::Engine::failures_of))]
     pub fn failures(self) -> Counted
         ensures { result ≡ failures_of self }
     {

@@ -5,6 +5,7 @@ ghost use Rattle.mirror.specs.Failed.{failed_of};
 use crate::engine::{Engine, Outcome};
 
 impl Engine {
+    #[tactic(auto, unfolding(crate::specs::Engine::sound_of, crate::specs::Failed::failed_of))]
     pub fn failed(mut self) -> Outcome
         ensures { result ≡ failed_of self }
     {

@@ -8,6 +8,7 @@ use bus::report::Report;
 use codec::time::{Nanos, Time};
 
 impl Engine {
+    #[tactic(auto, unfolding(crate::specs::Report::report_of, crate::specs::Engine::sound_of))]
     fn report(mut self, r: Report, payload: &[u8]) -> Timed
         ensures { result ≡ report_of self r payload.now }
     {

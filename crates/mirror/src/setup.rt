@@ -9,6 +9,7 @@ use codec::ident::Kind;
 use codec::time::Millis;
 
 // Network type 1, 2 or 3; the caller has refused every other.
+#[tactic(auto, unfolding(crate::specs::Setup::kind_numbered))]
 fn kind_numbered(n: u32) -> Kind
     ensures { result ≡ kind_numbered n }
 {
@@ -21,12 +22,14 @@ fn kind_numbered(n: u32) -> Kind
     Kind::FlexRay
 }
 
+#[tactic(auto, unfolding(crate::specs::Setup::source_numbered))]
 fn source_numbered(kind: u32, id: u32) -> Source
     ensures { result ≡ source_numbered kind id }
 {
     bus::source::fresh(kind_numbered(kind), codec::number::low8(id as u64))
 }
 
+#[tactic(auto, unfolding(crate::specs::Setup::pair_ok))]
 fn pair_ok(kind: u32, id: u32) -> bool
     ensures { result ≡ pair_ok kind id }
 {
@@ -118,6 +121,7 @@ fn reset_all(before: [Source; 8]) -> [Source; 8]
 
 impl Engine {
     // 14
+    #[tactic(auto, unfolding(crate::specs::Engine::sound_of, crate::specs::Setup::setup_of))]
     pub fn setup(mut self, size: u64, room: u64, deadline: u64, pairs: &[u32]) -> Outcome
         ensures { result ≡ setup_of self size room deadline pairs.now }
     {
@@ -156,6 +160,7 @@ impl Engine {
     }
 
     // 14
+    #[tactic(auto, unfolding(crate::specs::Engine::sound_of, crate::specs::Setup::switch_of))]
     pub fn switch(self, size: u64, room: u64, deadline: u64) -> Outcome
         ensures { result ≡ switch_of self size room deadline }
     {
@@ -179,6 +184,7 @@ impl Engine {
         }
     }
 
+    #[tactic(auto, unfolding(crate::specs::Engine::sound_of, crate::specs::Setup::offline_of))]
     pub fn offline(self) -> Outcome
         ensures { result ≡ offline_of self }
     {

@@ -20,6 +20,7 @@ pub struct Added {
 
 impl Engine {
     // The engine with another record in the place of a source, if nothing speaks against it.
+    #[tactic(auto, unfolding(crate::specs::Source::stored_of, crate::specs::Engine::answered))]
     fn store(mut self, k: usize, s: Source, cause: u8) -> Outcome
         requires { k < 8 }
         ensures { result ≡ stored_of self k s cause }
@@ -37,6 +38,7 @@ impl Engine {
         }
     }
 
+    #[tactic(auto, unfolding(crate::specs::Engine::cause_of, crate::specs::Engine::source_cause, crate::specs::Engine::sound_of))]
     fn known(self, source: u64, rest: u8) -> u8
         ensures { result ≡ cause_of self (source_cause self source rest) }
     {
@@ -45,6 +47,7 @@ impl Engine {
         bus::source::first(crate::engine::sound(self.count, m), cause, 19)
     }
 
+    #[tactic(auto, unfolding(crate::specs::Source::start_of))]
     pub fn start(self, source: u64) -> Outcome
         ensures { result ≡ start_of self source }
     {
@@ -54,6 +57,7 @@ impl Engine {
         self.store(k, s.start(), cause)
     }
 
+    #[tactic(auto, unfolding(crate::specs::Source::stop_of))]
     pub fn stop(self, source: u64) -> Outcome
         ensures { result ≡ stop_of self source }
     {
@@ -64,6 +68,7 @@ impl Engine {
     }
 
     // 2, 4, 3, 5
+    #[tactic(auto, unfolding(crate::specs::Source::update_of, crate::specs::Engine::cause_of, crate::specs::Engine::sound_of))]
     fn update(self, u: Update) -> Outcome
         ensures { result ≡ update_of self u }
     {
@@ -101,6 +106,7 @@ impl Engine {
     }
 
     // 2, 4, 9, 10
+    #[tactic(auto, unfolding(crate::specs::Engine::cause_of, crate::specs::Engine::sound_of))]
     fn add(mut self, a: Addition) -> Added
         ensures { result ≡ add_of self a }
     {
@@ -164,6 +170,7 @@ impl Engine {
     }
 
     // 2, 11
+    #[tactic(auto, unfolding(crate::specs::Source::remove_of))]
     pub fn remove(self, source: u64, number: u64) -> Outcome
         ensures { result ≡ remove_of self source number }
     {

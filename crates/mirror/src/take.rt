@@ -13,6 +13,7 @@ pub struct Taken {
 }
 
 impl Engine {
+    #[tactic(auto, unfolding(crate::specs::Take::taken_of, crate::specs::Take::output_of, crate::specs::Engine::sound_of))]
     pub fn take(mut self, out: &mut [u8]) -> Taken
         ensures value { result ≡ taken_of self (length out.old) }
         ensures out_after { out.new ≡ output_of self out.old }

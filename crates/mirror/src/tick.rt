@@ -35,6 +35,7 @@ impl Engine {
         e
     }
 
+    #[tactic(auto, unfolding(crate::specs::Tick::tick_of, crate::specs::Engine::sound_of))]
     pub fn tick(self, t: Time) -> Timed
         ensures { result ≡ tick_of self t }
     {

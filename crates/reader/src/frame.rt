@@ -82,6 +82,7 @@ fn walk(frame: &[u8], first: usize) -> Verdict
     Verdict::Clean
 }
 
+#[tactic(auto, unfolding(crate::specs::Frame::judge_of))]
 pub fn judge(frame: &[u8]) -> Judged
     ensures { result ≡ judge_of frame.now }
 {

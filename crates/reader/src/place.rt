@@ -21,6 +21,7 @@ pub enum Stepped {
 }
 
 // The header time of a frame, whatever else stands in it.
+#[tactic(auto, unfolding(crate::specs::Frame::time_in))]
 fn time_in(frame: &[u8]) -> Time
     ensures { result ≡ time_in frame.now }
 {
@@ -31,6 +32,7 @@ fn time_in(frame: &[u8]) -> Time
 }
 
 // Reads at a place without judging the frame: for a listing that judged it once.
+#[tactic(auto, unfolding(crate::specs::Frame::item_at_of))]
 pub fn item_at(frame: &[u8], place: usize) -> Stepped
     ensures { result ≡ item_at_of frame.now place }
 {
@@ -56,6 +58,7 @@ pub fn item_at(frame: &[u8], place: usize) -> Stepped
     }
 }
 
+#[tactic(auto, unfolding(crate::specs::Frame::payload_at_of))]
 pub fn payload_at(frame: &[u8], place: usize) -> &[u8]
     ensures { result.now ≡ payload_at_of frame.now place }
 {
@@ -95,6 +98,7 @@ fn starts(frame: &[u8], first: usize, place: usize) -> bool
     at == place
 }
 
+#[tactic(auto, unfolding(crate::specs::Frame::step_of))]
 pub fn step(frame: &[u8], place: usize) -> Stepped
     ensures { result ≡ step_of frame.now place }
 {
@@ -110,6 +114,7 @@ pub fn step(frame: &[u8], place: usize) -> Stepped
 }
 
 // An accepted frame with an item or the end at the place.
+#[tactic(auto, unfolding(crate::specs::Frame::held_of))]
 fn held(frame: &[u8], place: usize) -> bool
     ensures { result ≡ held_of frame.now place }
 {
@@ -119,6 +124,7 @@ fn held(frame: &[u8], place: usize) -> bool
     starts(frame, 14, place)
 }
 
+#[tactic(auto, unfolding(crate::specs::Frame::payload_of))]
 pub fn payload(frame: &[u8], place: usize) -> &[u8]
     ensures { result.now ≡ payload_of frame.now place }
 {

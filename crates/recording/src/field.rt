@@ -47,6 +47,7 @@ fn note(length: u16) -> Found
 }
 
 // The time that a body of ten bytes is, as in a frame's header.
+#[tactic(auto, unfolding(crate::specs::File::start_in))]
 fn start_in(body: &[u8]) -> Time
     ensures { result ≡ start_in body.now }
 {
@@ -86,6 +87,7 @@ pub fn judge(tag: u8, length: u16, body: &[u8]) -> Found
 }
 
 // A body that the verdict does not depend on is counted and not kept.
+#[tactic(auto, unfolding(crate::specs::File::keeps))]
 pub fn kept(tag: u8, length: u16) -> bool
     ensures { result ≡ keeps tag length }
 {

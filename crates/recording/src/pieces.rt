@@ -88,6 +88,7 @@ fn head_byte(k: usize, past: usize, old: u8, piece: &[u8]) -> u8
     piece[i]
 }
 
+#[tactic(auto, unfolding(crate::specs::Pieces::headed_of))]
 fn headed(p: Place, piece: &[u8]) -> Place
     ensures { result ≡ headed_of p piece.now }
 {
@@ -148,6 +149,7 @@ fn keep(p: Place, buffer: &mut [u8], piece: &[u8])
     }
 }
 
+#[tactic(auto, unfolding(crate::specs::Pieces::found_of))]
 fn found(p: Place, buffer: &[u8]) -> Found
     ensures { result ≡ found_of p buffer.now }
 {
@@ -216,6 +218,7 @@ fn ends(p: Place, n: usize, buffer: &[u8]) -> Step
     }
 }
 
+#[tactic(auto, unfolding(crate::specs::Pieces::next_of, crate::specs::Pieces::kept_of, crate::specs::Pieces::place_of))]
 fn advance(place: Place, buffer: &mut [u8], piece: &[u8]) -> Step
     ensures value { result ≡ next_of place buffer.old piece.now }
     ensures buffer_after { buffer.new ≡ kept_of place buffer.old piece.now }

@@ -31,6 +31,7 @@ fn number(out: &mut [u8], at: usize, v: u64) -> usize
 }
 
 // A space, and a number.
+#[tactic(auto, unfolding(crate::specs::Answer::field_text))]
 fn field(out: &mut [u8], at: usize, v: u64) -> usize
     requires { at + 21 ≤ length out.old }
     ensures { Short 21 out.old at (field_text v) out.new result }
@@ -39,6 +40,7 @@ fn field(out: &mut [u8], at: usize, v: u64) -> usize
     number(out, start, v)
 }
 
+#[tactic(auto, unfolding(crate::specs::Answer::time_text))]
 fn time(out: &mut [u8], at: usize, t: Time) -> usize
     requires { at + 42 ≤ length out.old }
     ensures { Short 42 out.old at (time_text t) out.new result }
@@ -57,6 +59,7 @@ fn state(out: &mut [u8], at: usize, s: State) -> usize
     }
 }
 
+#[tactic(auto, unfolding(crate::specs::Answer::flexray_text))]
 fn flexray(out: &mut [u8], at: usize, channels: u8, slot: u16, cycle: u8) -> usize
     requires { at + 63 ≤ length out.old }
     ensures { Short 63 out.old at (flexray_text channels slot cycle) out.new result }
@@ -68,6 +71,7 @@ fn flexray(out: &mut [u8], at: usize, channels: u8, slot: u16, cycle: u8) -> usi
     number(out, e, cycle as u64)
 }
 
+#[tactic(auto, unfolding(crate::specs::Answer::error_text))]
 fn error(out: &mut [u8], at: usize, channels: u8) -> usize
     requires { at + 25 ≤ length out.old }
     ensures { Short 25 out.old at (error_text channels) out.new result }
@@ -104,6 +108,7 @@ fn load(out: &mut [u8], at: usize, carries: bool, n: usize) -> usize
     }
 }
 
+#[tactic(auto, unfolding(crate::specs::Answer::placed_text))]
 fn placed(out: &mut [u8], at: usize, next: usize, t: Time) -> usize
     requires { at + 64 ≤ length out.old }
     ensures { Short 64 out.old at (placed_text next t) out.new result }
@@ -113,6 +118,7 @@ fn placed(out: &mut [u8], at: usize, next: usize, t: Time) -> usize
     time(out, b, t)
 }
 
+#[tactic(auto, unfolding(crate::specs::Answer::item_text))]
 fn item(out: &mut [u8], at: usize, it: Item, n: usize) -> usize
     requires { at + 147 ≤ length out.old }
     ensures { Short 147 out.old at (item_text it n) out.new result }
@@ -127,6 +133,7 @@ fn item(out: &mut [u8], at: usize, it: Item, n: usize) -> usize
     load(out, e, it.carries, n)
 }
 
+#[tactic(auto, unfolding(crate::specs::Answer::judged_text))]
 fn lay_judged(out: &mut [u8], j: Judged) -> usize
     requires { 256 ≤ length out.old }
     ensures { Short 256 out.old 0 (judged_text j) out.new result }
@@ -177,6 +184,7 @@ pub fn stepped(out: &mut [u8], at: usize, s: Stepped) -> Put
     codec::number::put_bytes(out, at, &text[..n])
 }
 
+#[tactic(auto, unfolding(crate::specs::Answer::bad_text))]
 fn lay_bad(out: &mut [u8], line: u64) -> usize
     requires { 256 ≤ length out.old }
     ensures { Short 22 out.old 0 (bad_text line) out.new result }
@@ -201,6 +209,7 @@ pub fn done(out: &mut [u8], at: usize, answer: u8) -> Put
     text::put::decimal(out, at, answer as u64)
 }
 
+#[tactic(auto, unfolding(crate::specs::Answer::numbered_text))]
 fn lay_numbered(out: &mut [u8], answer: u8, v: u64) -> usize
     requires { 256 ≤ length out.old }
     ensures { Short 41 out.old 0 (numbered_text answer v) out.new result }
@@ -217,6 +226,7 @@ pub fn numbered(out: &mut [u8], at: usize, answer: u8, v: u64) -> Put
     codec::number::put_bytes(out, at, &text[..n])
 }
 
+#[tactic(auto, unfolding(crate::specs::Answer::back_text))]
 fn lay_back(out: &mut [u8], answer: u8, back: u64) -> usize
     requires { 256 ≤ length out.old }
     ensures { Short 46 out.old 0 (back_text answer back) out.new result }
@@ -227,6 +237,7 @@ fn lay_back(out: &mut [u8], answer: u8, back: u64) -> usize
 }
 
 // The answer of a report or a tick: how far the clock was behind, where it was.
+#[tactic(auto, unfolding(crate::specs::Answer::timed_text))]
 pub fn timed(out: &mut [u8], at: usize, answer: u8, back: Nanos) -> Put
     ensures { Wrote true out.old at (timed_text answer back.0) out.new result }
 {
@@ -276,6 +287,7 @@ fn lay_number(out: &mut [u8], answer: u8) -> usize
     lay(out, a, b" ")
 }
 
+#[tactic(auto, unfolding(crate::specs::Answer::bytes_text))]
 pub fn with_bytes(out: &mut [u8], at: usize, answer: u8, part: &[u8]) -> Put
     ensures { Wrote true out.old at (bytes_text answer part.now) out.new result }
 {
@@ -292,6 +304,7 @@ fn lay_length(out: &mut [u8], answer: u8, size: u64) -> usize
     lay(out, a, b" ")
 }
 
+#[tactic(auto, unfolding(crate::specs::Answer::taken_text))]
 pub fn taken(out: &mut [u8], at: usize, answer: u8, size: u64, part: &[u8]) -> Put
     ensures { Wrote true out.old at (taken_text answer size part.now) out.new result }
 {

@@ -113,6 +113,7 @@ pub enum Call {
 }
 
 // The count of words is part of a call: a missing or an extra word makes it none.
+#[tactic(auto, unfolding(crate::specs::Call::counted_of))]
 fn counted(name: &[u8], line: &[u8]) -> Call
     ensures { result ≡ counted_of name.now line.now }
 {
@@ -142,6 +143,7 @@ fn counted(name: &[u8], line: &[u8]) -> Call
 }
 
 // A source is two words more; the numbers of the sources are read apart.
+#[tactic(auto, unfolding(crate::specs::Call::set_up_of))]
 fn set_up(line: &[u8]) -> Call
     ensures { result ≡ set_up_of line.now }
 {
@@ -168,6 +170,7 @@ fn set_up(line: &[u8]) -> Call
     }
 }
 
+#[tactic(auto, unfolding(crate::specs::Call::call_of))]
 pub fn parse(line: &[u8]) -> Call
     ensures { result ≡ call_of line.now }
 {

@@ -6,6 +6,7 @@ use crate::call::Call;
 use crate::word::{Flag, Narrow, Stamp};
 use text::number::Number;
 
+#[tactic(auto, unfolding(crate::specs::Call::can_state_of))]
 fn can_state(line: &[u8]) -> Call
     ensures { result ≡ can_state_of line.now }
 {
@@ -33,6 +34,7 @@ fn can_state(line: &[u8]) -> Call
     }
 }
 
+#[tactic(auto, unfolding(crate::specs::Call::can_of))]
 fn can(line: &[u8]) -> Call
     ensures { result ≡ can_of line.now }
 {
@@ -45,6 +47,7 @@ fn can(line: &[u8]) -> Call
     Call::Can { source, time, key }
 }
 
+#[tactic(auto, unfolding(crate::specs::Call::error_of))]
 fn error(line: &[u8]) -> Call
     ensures { result ≡ error_of line.now }
 {
@@ -65,6 +68,7 @@ fn error(line: &[u8]) -> Call
     }
 }
 
+#[tactic(auto, unfolding(crate::specs::Call::six_words_of))]
 pub(crate) fn six_words(name: &[u8], line: &[u8]) -> Call
     ensures { result ≡ six_words_of name.now line.now }
 {
@@ -80,6 +84,7 @@ pub(crate) fn six_words(name: &[u8], line: &[u8]) -> Call
     Call::Bad
 }
 
+#[tactic(auto, unfolding(crate::specs::Call::lin_of))]
 fn lin(line: &[u8]) -> Call
     ensures { result ≡ lin_of line.now }
 {
@@ -100,6 +105,7 @@ fn lin(line: &[u8]) -> Call
     }
 }
 
+#[tactic(auto, unfolding(crate::specs::Call::conflict_of))]
 fn conflict(line: &[u8]) -> Call
     ensures { result ≡ conflict_of line.now }
 {
@@ -124,6 +130,7 @@ fn conflict(line: &[u8]) -> Call
     }
 }
 
+#[tactic(auto, unfolding(crate::specs::Call::slots_of))]
 fn slots(line: &[u8]) -> Call
     ensures { result ≡ slots_of line.now }
 {
@@ -155,6 +162,7 @@ fn slots(line: &[u8]) -> Call
     }
 }
 
+#[tactic(auto, unfolding(crate::specs::Call::seven_words_of))]
 pub(crate) fn seven_words(name: &[u8], line: &[u8]) -> Call
     ensures { result ≡ seven_words_of name.now line.now }
 {
@@ -170,6 +178,7 @@ pub(crate) fn seven_words(name: &[u8], line: &[u8]) -> Call
     Call::Bad
 }
 
+#[tactic(auto, unfolding(crate::specs::Call::flexray_of))]
 fn flexray(line: &[u8]) -> Call
     ensures { result ≡ flexray_of line.now }
 {
@@ -194,6 +203,7 @@ fn flexray(line: &[u8]) -> Call
     }
 }
 
+#[tactic(auto, unfolding(crate::specs::Call::eight_words_of))]
 pub(crate) fn eight_words(name: &[u8], line: &[u8]) -> Call
     ensures { result ≡ eight_words_of name.now line.now }
 {

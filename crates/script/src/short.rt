@@ -7,6 +7,7 @@ use crate::word::{Bounds, Flag, Narrow, Shape};
 use codec::time::Time;
 use text::number::Number;
 
+#[tactic(auto, unfolding(crate::specs::Call::one_word_of))]
 pub(crate) fn one_word(name: &[u8]) -> Call
     ensures { result ≡ one_word_of name.now }
 {
@@ -29,6 +30,7 @@ pub(crate) fn one_word(name: &[u8]) -> Call
 }
 
 // The program lends an output of at most 2,048 bytes.
+#[tactic(auto, unfolding(crate::specs::Call::taking_of))]
 fn taking(word: &[u8]) -> Call
     ensures { result ≡ taking_of word.now }
 {
@@ -38,6 +40,7 @@ fn taking(word: &[u8]) -> Call
     Call::Take(size)
 }
 
+#[tactic(auto, unfolding(crate::specs::Call::sourced_of))]
 fn sourced(name: &[u8], line: &[u8]) -> Call
     ensures { result ≡ sourced_of name.now line.now }
 {
@@ -53,6 +56,7 @@ fn sourced(name: &[u8], line: &[u8]) -> Call
     Call::Bad
 }
 
+#[tactic(auto, unfolding(crate::specs::Call::two_words_of))]
 pub(crate) fn two_words(name: &[u8], line: &[u8]) -> Call
     ensures { result ≡ two_words_of name.now line.now }
 {
@@ -66,6 +70,7 @@ pub(crate) fn two_words(name: &[u8], line: &[u8]) -> Call
 }
 
 // The program lends an output of at most 70,000 bytes.
+#[tactic(auto, unfolding(crate::specs::Call::sized_of))]
 fn sized(word: &[u8]) -> Call
     ensures { result ≡ sized_of word.now }
 {
@@ -75,6 +80,7 @@ fn sized(word: &[u8]) -> Call
     Call::Rewrite(size)
 }
 
+#[tactic(auto, unfolding(crate::specs::Call::placed_of))]
 fn placed(name: &[u8], line: &[u8]) -> Call
     ensures { result ≡ placed_of name.now line.now }
 {
@@ -90,6 +96,7 @@ fn placed(name: &[u8], line: &[u8]) -> Call
     Call::Bad
 }
 
+#[tactic(auto, unfolding(crate::specs::Call::removed_of))]
 fn removed(line: &[u8]) -> Call
     ensures { result ≡ removed_of line.now }
 {
@@ -102,6 +109,7 @@ fn removed(line: &[u8]) -> Call
     Call::Remove { source, number }
 }
 
+#[tactic(auto, unfolding(crate::specs::Call::ticked_of))]
 fn ticked(line: &[u8]) -> Call
     ensures { result ≡ ticked_of line.now }
 {
@@ -114,6 +122,7 @@ fn ticked(line: &[u8]) -> Call
     Call::Tick(Time { sec, nano })
 }
 
+#[tactic(auto, unfolding(crate::specs::Call::lin_state_of))]
 fn lin_state(line: &[u8]) -> Call
     ensures { result ≡ lin_state_of line.now }
 {
@@ -126,6 +135,7 @@ fn lin_state(line: &[u8]) -> Call
     Call::LinState { source, online }
 }
 
+#[tactic(auto, unfolding(crate::specs::Call::three_words_of))]
 pub(crate) fn three_words(name: &[u8], line: &[u8]) -> Call
     ensures { result ≡ three_words_of name.now line.now }
 {
@@ -144,6 +154,7 @@ pub(crate) fn three_words(name: &[u8], line: &[u8]) -> Call
     placed(name, line)
 }
 
+#[tactic(auto, unfolding(crate::specs::Call::switched_of))]
 fn switched(line: &[u8]) -> Call
     ensures { result ≡ switched_of line.now }
 {
@@ -162,6 +173,7 @@ fn switched(line: &[u8]) -> Call
     }
 }
 
+#[tactic(auto, unfolding(crate::specs::Call::flexray_state_of))]
 fn flexray_state(line: &[u8]) -> Call
     ensures { result ≡ flexray_state_of line.now }
 {
@@ -181,6 +193,7 @@ fn flexray_state(line: &[u8]) -> Call
     }
 }
 
+#[tactic(auto, unfolding(crate::specs::Call::filtered_of))]
 fn filtered(name: &[u8], line: &[u8]) -> Call
     ensures { result ≡ filtered_of name.now line.now }
 {
@@ -218,6 +231,7 @@ fn filtered(name: &[u8], line: &[u8]) -> Call
     Call::Bad
 }
 
+#[tactic(auto, unfolding(crate::specs::Call::four_words_of))]
 pub(crate) fn four_words(name: &[u8], line: &[u8]) -> Call
     ensures { result ≡ four_words_of name.now line.now }
 {

@@ -14,6 +14,7 @@ pub enum Tape {
 }
 
 // Asked of the line as it stands: a note may hold what starts a comment, and spaces at its end.
+#[tactic(auto, unfolding(crate::specs::Tape::is_note))]
 pub fn is_note(line: &[u8]) -> bool
     ensures { result ≡ is_note line.now }
 {
@@ -30,6 +31,7 @@ pub fn note_in(line: &[u8]) -> &[u8]
     &line[5..]
 }
 
+#[tactic(auto, unfolding(crate::specs::Tape::started_of))]
 fn started(line: &[u8]) -> Tape
     ensures { result ≡ started_of line.now }
 {
@@ -44,6 +46,7 @@ fn started(line: &[u8]) -> Tape
 }
 
 // A line without its comment: with one number `start` is the engine's call, with two a microphone's start.
+#[tactic(auto, unfolding(crate::specs::Tape::tape_of))]
 pub fn parse(line: &[u8]) -> Tape
     ensures { result ≡ tape_of line.now }
 {

@@ -36,6 +36,7 @@ pub enum Bounds {
     Bad,
 }
 
+#[tactic(auto, unfolding(crate::specs::Word::narrow_of))]
 pub fn narrow_of(word: &[u8]) -> Narrow
     ensures { result ≡ narrow_of word.now }
 {
@@ -45,18 +46,21 @@ pub fn narrow_of(word: &[u8]) -> Narrow
     Narrow::Is(v as u32)
 }
 
+#[tactic(auto, unfolding(crate::specs::Word::wide_at))]
 pub fn wide_at(line: &[u8], k: usize) -> Number
     ensures { result ≡ wide_at line.now k }
 {
     text::number::read(text::line::word(line, k), 18446744073709551615)
 }
 
+#[tactic(auto, unfolding(crate::specs::Word::narrow_at))]
 pub fn narrow_at(line: &[u8], k: usize) -> Narrow
     ensures { result ≡ narrow_at line.now k }
 {
     narrow_of(text::line::word(line, k))
 }
 
+#[tactic(auto, unfolding(crate::specs::Word::flag_at))]
 pub fn flag_at(line: &[u8], k: usize) -> Flag
     ensures { result ≡ flag_at line.now k }
 {
@@ -67,6 +71,7 @@ pub fn flag_at(line: &[u8], k: usize) -> Flag
 }
 
 // Every report starts with its source and its time.
+#[tactic(auto, unfolding(crate::specs::Word::stamp_at))]
 pub fn stamp_at(line: &[u8]) -> Stamp
     ensures { result ≡ stamp_at line.now }
 {
@@ -83,6 +88,7 @@ pub fn stamp_at(line: &[u8]) -> Stamp
     Stamp::Is { source, time }
 }
 
+#[tactic(auto, unfolding(crate::specs::Word::shape_at))]
 pub fn shape_at(line: &[u8]) -> Shape
     ensures { result ≡ shape_at line.now }
 {
@@ -102,6 +108,7 @@ pub fn shape_at(line: &[u8]) -> Shape
     }
 }
 
+#[tactic(auto, unfolding(crate::specs::Word::bounds_at))]
 pub fn bounds_at(line: &[u8]) -> Bounds
     ensures { result ≡ bounds_at line.now }
 {

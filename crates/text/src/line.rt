@@ -30,6 +30,7 @@ fn trim(s: &[u8]) -> &[u8]
 }
 
 // The line without its comment, and then without the spaces at its end.
+#[tactic(auto, unfolding(crate::specs::Line::kept_of))]
 pub fn kept(line: &[u8]) -> &[u8]
     ensures { result.now ≡ kept_of line.now }
 {

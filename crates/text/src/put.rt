@@ -5,6 +5,7 @@ ghost use Rattle.text.specs.Put.{letter_of, hexes, hex_of, decimal_of, Ends};
 
 use codec::number::Put;
 
+#[tactic(auto, unfolding(crate::specs::Put::letter_of))]
 fn letter(v: u8) -> u8
     requires { v < 16 }
     ensures { result ≡ letter_of v }

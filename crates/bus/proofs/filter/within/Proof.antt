@@ -1,8 +1,0 @@
-use borrow.Author.Tests.{le-leb, lt-leb}
-use Rattle.bus.proofs.filter.within.Statement.{statement}
-use Rattle.bus.proofs.filter.within.Tie as tie
-
-pub within-spec : {M : Type 1} → statement M
-within-spec = tie.close (tie.spec
-    (λ c. rw (lt-leb _ _ c.if1.true))
-    (λ c. rw (le-leb _ _ c.if1.false)))
