@@ -1,5 +1,5 @@
 -- Each field that was read: its bytes stand there, and what it says of the item. Assumes nothing.
-use Prim.Native.Nat.{ℕ, ◌+◌, ◌-◌, ◌*◌, ◌/◌, ◌%◌, ◌^◌, ◌≤◌, ◌<◌}
+use Prim.Native.Nat.{ℕ, ◌+◌, ◌*◌, ◌/◌, ◌%◌, ◌^◌, ◌≤◌, ◌<◌}
 use mathlib.Core.Path.{◌≡◌, refl, sym, ap}
 use mathlib.Core.Bool.{Bool, true, false, ◌&&◌}
 use mathlib.Core.List.{List, [], ◌∷◌, ◌++◌}
@@ -16,27 +16,16 @@ use Rattle.codec.specs.Field.{read_flags, read_state, can_ident, lin_ident, fram
 use Rattle.codec.specs.Layout.{StateFits, IdentFits}
 use Rattle.codec.specs.declared.number.Part.TheVariants as Part
 use Rattle.codec.specs.declared.number.Read8.{Read8}
-use Rattle.codec.specs.declared.number.Read8.TheVariants as Read8
 use Rattle.codec.specs.declared.number.Read16.{Read16}
-use Rattle.codec.specs.declared.number.Read16.TheVariants as Read16
 use Rattle.codec.specs.declared.number.Read32.{Read32}
-use Rattle.codec.specs.declared.number.Read32.TheVariants as Read32
 use Rattle.codec.specs.declared.ident.Kind.{Kind}
-use Rattle.codec.specs.declared.ident.Kind.TheVariants as Kind
 use Rattle.codec.specs.declared.ident.KindRead.{KindRead}
-use Rattle.codec.specs.declared.ident.KindRead.TheVariants as KindRead
 use Rattle.codec.specs.declared.ident.Ident.{Ident}
-use Rattle.codec.specs.declared.ident.Ident.TheVariants as Ident
 use Rattle.codec.specs.declared.item.State.{State}
-use Rattle.codec.specs.declared.item.State.TheVariants as State
 use Rattle.codec.specs.declared.field.FlagsRead.{FlagsRead}
-use Rattle.codec.specs.declared.field.FlagsRead.TheVariants as FlagsRead
 use Rattle.codec.specs.declared.field.StateRead.{StateRead}
-use Rattle.codec.specs.declared.field.StateRead.TheVariants as StateRead
 use Rattle.codec.specs.declared.field.IdentRead.{IdentRead}
-use Rattle.codec.specs.declared.field.IdentRead.TheVariants as IdentRead
 use Rattle.codec.specs.declared.field.LoadRead.{LoadRead}
-use Rattle.codec.specs.declared.field.LoadRead.TheVariants as LoadRead
 use Rattle.codec.proofs.BoolLaws.{and_l, and_r}
 use Rattle.codec.proofs.NumberLaws.{length-be, part_room, has_room_lem}
 use Rattle.codec.proofs.Stands.{Stands, join, stands_none, stands_part, bytes_part, bytes-at, word_stands, word_below}

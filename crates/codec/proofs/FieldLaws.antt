@@ -19,7 +19,6 @@ use Rattle.codec.specs.declared.field.StateRead.TheVariants as StateRead
 use Rattle.codec.specs.declared.field.IdentRead.TheVariants as IdentRead
 use Rattle.codec.specs.declared.field.LoadRead.{LoadRead}
 use Rattle.codec.specs.declared.field.ItemRead.{ItemRead}
-use Rattle.codec.specs.declared.field.ItemRead.TheVariants as ItemRead
 
 -- the item that the fields make with what was found of its payload
 abbrev pub loaded : ℕ → ℕ → State → Ident → Bool → LoadRead → ItemRead

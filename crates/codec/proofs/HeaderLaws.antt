@@ -8,7 +8,6 @@ use lib.ListN.{length, get_or}
 use Rattle.codec.specs.declared.number.Put.{Put}
 use Rattle.codec.specs.declared.header.Header.{Header}
 use Rattle.codec.specs.declared.header.HeaderRead.{HeaderRead}
-use Rattle.codec.specs.declared.header.HeaderRead.TheVariants as HeaderRead
 use Rattle.codec.specs.declared.refusal.Refusal.TheVariants as Refusal
 use borrow.Author.Tests.{lt-ltb, le-ltb, le-leb, lt-leb, eq-eqb, ne_eqb}
 use Rattle.codec.specs.Number.{be, word, word_at, Word, Laid, Wrote}

@@ -18,10 +18,8 @@ use Rattle.codec.specs.declared.ident.Ident.{Ident}
 use Rattle.codec.specs.declared.item.State.{State}
 use Rattle.codec.specs.declared.item.Item.{Item}
 use Rattle.codec.specs.declared.field.ItemRead.{ItemRead}
-use Rattle.codec.specs.declared.field.ItemRead.TheVariants as ItemRead
 use Rattle.codec.specs.declared.header.Header.{Header}
 use Rattle.codec.specs.declared.header.HeaderRead.{HeaderRead}
-use Rattle.codec.specs.declared.header.HeaderRead.TheVariants as HeaderRead
 use Rattle.codec.proofs.Stands.{Stands, join, part_back, bytes-at, word_stands, word_below}
 use Rattle.codec.proofs.RoundTrip.{payload_place}
 use Rattle.codec.proofs.Opened.{never, chosen, passed, in8, in16, in_flags, in_state, in_ident, in_load}

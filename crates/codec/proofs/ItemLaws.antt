@@ -1,5 +1,5 @@
 -- Laws of ids and items. Assumes nothing.
-use Prim.Native.Nat.{ℕ, ◌+◌, ◌-◌, ◌*◌, ◌/◌, ◌%◌, ◌^◌, ◌≤◌, ◌<◌}
+use Prim.Native.Nat.{ℕ, ◌+◌, ◌*◌, ◌/◌, ◌%◌, ◌^◌, ◌≤◌, ◌<◌}
 use mathlib.Core.Path.{◌≡◌, refl, sym, ◌∙◌}
 use mathlib.Core.Bool.{Bool, true, false, ◌&&◌}
 use mathlib.Core.List.{List, [], ◌∷◌, ◌++◌}
@@ -14,7 +14,6 @@ use Rattle.codec.specs.Number.{be, Laid, Below}
 use Rattle.codec.specs.Ident.{kind_of, ident_bytes, ident_ok, most_of, can_fd, can_most, channels_ok, flexray_range}
 use Rattle.codec.specs.Item.{state_bytes, set_of, set_ok, set_for, state_ok, load_ok, load_bytes, load_length, flags_of, encode, item_ok, item_length}
 use Rattle.codec.specs.declared.ident.Ident.{Ident}
-use Rattle.codec.specs.declared.ident.Ident.TheVariants as Ident
 use Rattle.codec.specs.declared.item.Item.{Item}
 use Rattle.codec.proofs.BoolLaws.{and_l, and_r}
 use Rattle.codec.proofs.NumberLaws.{chain}

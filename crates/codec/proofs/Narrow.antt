@@ -12,36 +12,23 @@ use borrow.Author.Tests.{eqb-true}
 use Rattle.codec.specs.Choice.{pick, bit}
 use Rattle.codec.specs.Number.{get8_of, get16_of, get32_of, part_of, open8, open16, open32, open_part}
 use Rattle.codec.specs.Ident.{can_zero, can_range, pid_ok, channels_ok, flexray_range, ident_ok, most_of}
-use Rattle.codec.specs.Item.{alone_in, set_for, set_of, item_ok, load_ok}
+use Rattle.codec.specs.Item.{alone_in, set_for, set_of, load_ok}
 use Rattle.codec.specs.Field.{read_flags, read_state, can_ident, read_can, lin_ident, read_lin, read_flexray, frame_ident, error_ident, flexray_ident, read_ident, read_load, read_item, open_flags, open_state, open_ident, open_load}
 use Rattle.codec.specs.Layout.{Entry, Valid}
 use Rattle.codec.specs.declared.refusal.Refusal.{Refusal}
-use Rattle.codec.specs.declared.refusal.Refusal.TheVariants as Refusal
 use Rattle.codec.specs.declared.number.Part.{Part}
-use Rattle.codec.specs.declared.number.Part.TheVariants as Part
 use Rattle.codec.specs.declared.number.Read8.{Read8}
-use Rattle.codec.specs.declared.number.Read8.TheVariants as Read8
 use Rattle.codec.specs.declared.number.Read16.{Read16}
-use Rattle.codec.specs.declared.number.Read16.TheVariants as Read16
 use Rattle.codec.specs.declared.number.Read32.{Read32}
-use Rattle.codec.specs.declared.number.Read32.TheVariants as Read32
 use Rattle.codec.specs.declared.ident.Kind.{Kind}
-use Rattle.codec.specs.declared.ident.Kind.TheVariants as Kind
 use Rattle.codec.specs.declared.ident.Ident.{Ident}
-use Rattle.codec.specs.declared.ident.Ident.TheVariants as Ident
 use Rattle.codec.specs.declared.item.State.{State}
-use Rattle.codec.specs.declared.item.State.TheVariants as State
 use Rattle.codec.specs.declared.item.Item.{Item}
 use Rattle.codec.specs.declared.field.FlagsRead.{FlagsRead}
-use Rattle.codec.specs.declared.field.FlagsRead.TheVariants as FlagsRead
 use Rattle.codec.specs.declared.field.StateRead.{StateRead}
-use Rattle.codec.specs.declared.field.StateRead.TheVariants as StateRead
 use Rattle.codec.specs.declared.field.IdentRead.{IdentRead}
-use Rattle.codec.specs.declared.field.IdentRead.TheVariants as IdentRead
 use Rattle.codec.specs.declared.field.LoadRead.{LoadRead}
-use Rattle.codec.specs.declared.field.LoadRead.TheVariants as LoadRead
 use Rattle.codec.specs.declared.field.ItemRead.{ItemRead}
-use Rattle.codec.specs.declared.field.ItemRead.TheVariants as ItemRead
 use Rattle.codec.proofs.BoolLaws.{and_l}
 use Rattle.codec.proofs.Opened.{never}
 use Rattle.codec.proofs.ItemLaws.{ok-set, ok_load, ok_ident, channels_in}

@@ -12,7 +12,6 @@ use Rattle.codec.specs.Choice.{pick}
 use Rattle.codec.proofs.Opened.{never, chosen}
 use borrow.Author.Tests.{le-leb, lt-leb, leb-true}
 use Rattle.codec.specs.declared.number.Put.{Put}
-use Rattle.codec.specs.declared.number.Put.TheVariants as Put
 use Rattle.codec.specs.declared.number.Part.TheVariants as Part
 use Rattle.codec.specs.Number.{part_of, be, val, over, shr, word, word_at, fits, Wrote, Laid, Word}
 

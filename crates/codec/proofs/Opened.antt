@@ -1,5 +1,5 @@
 -- An opened answer or a choice that is x: what follows where it went on, and where it did not. Assumes nothing.
-use Prim.Native.Nat.{ℕ, ◌-◌}
+use Prim.Native.Nat.{ℕ}
 use mathlib.Core.Path.{◌≡◌, refl}
 use mathlib.Core.Bool.{Bool, true, false}
 use native.Mathlib.Omega.{arith}
@@ -9,28 +9,18 @@ use Rattle.codec.specs.Ident.{open_kind}
 use Rattle.codec.specs.Field.{open_flags, open_state, open_ident, open_load}
 use Rattle.codec.specs.declared.refusal.Refusal.{Refusal}
 use Rattle.codec.specs.declared.number.Part.{Part}
-use Rattle.codec.specs.declared.number.Part.TheVariants as Part
 use Rattle.codec.specs.declared.number.Read8.{Read8}
-use Rattle.codec.specs.declared.number.Read8.TheVariants as Read8
 use Rattle.codec.specs.declared.number.Read16.{Read16}
-use Rattle.codec.specs.declared.number.Read16.TheVariants as Read16
 use Rattle.codec.specs.declared.number.Read32.{Read32}
-use Rattle.codec.specs.declared.number.Read32.TheVariants as Read32
 use Rattle.codec.specs.declared.ident.Kind.{Kind}
 use Rattle.codec.specs.declared.ident.KindRead.{KindRead}
-use Rattle.codec.specs.declared.ident.KindRead.TheVariants as KindRead
 use Rattle.codec.specs.declared.ident.Ident.{Ident}
 use Rattle.codec.specs.declared.item.State.{State}
 use Rattle.codec.specs.declared.field.FlagsRead.{FlagsRead}
-use Rattle.codec.specs.declared.field.FlagsRead.TheVariants as FlagsRead
 use Rattle.codec.specs.declared.field.StateRead.{StateRead}
-use Rattle.codec.specs.declared.field.StateRead.TheVariants as StateRead
 use Rattle.codec.specs.declared.field.IdentRead.{IdentRead}
-use Rattle.codec.specs.declared.field.IdentRead.TheVariants as IdentRead
 use Rattle.codec.specs.declared.field.LoadRead.{LoadRead}
-use Rattle.codec.specs.declared.field.LoadRead.TheVariants as LoadRead
 use Rattle.codec.specs.declared.field.ItemRead.{ItemRead}
-use Rattle.codec.specs.declared.field.ItemRead.TheVariants as ItemRead
 
 pub never : {G : Type 0} → ◌≡◌ {A = ℕ} 0 1 → G
 never z = let w : ⊥ = omega arith in absurd w

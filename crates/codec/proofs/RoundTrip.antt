@@ -12,7 +12,7 @@ use borrow.Author.Tests.{le-ltb, le-leb, leb-true, eq-eqb, eqb-true}
 use Rattle.codec.specs.Choice.{pick, bit}
 use Rattle.codec.specs.Number.{be, val, word, fits, Bytes, get8_of, get16_of, get32_of, part_of}
 use Rattle.codec.specs.Ident.{network_type, kind_in, kind_of, ident_bytes, ident_bit, ident_ok, most_of, can_zero, can_range}
-use Rattle.codec.specs.Item.{state_bytes, state_bit, set_of, set_ok, set_for, alone_in, state_ok, load_ok, load_bytes, flags_of, encode}
+use Rattle.codec.specs.Item.{state_bytes, state_bit, set_ok, set_for, alone_in, state_ok, load_ok, load_bytes, flags_of, encode}
 use Rattle.codec.specs.Field.{read_flags, read_state, can_ident, flexray_ident, read_can, read_lin, lin_ident, frame_ident, error_ident, read_flexray, read_ident, read_load, read_item, bytes_at}
 use Rattle.codec.specs.Header.{header_bytes, read_header}
 use Rattle.codec.specs.Layout.{Entry, Valid, StateFits, IdentFits}
@@ -21,22 +21,17 @@ use Rattle.codec.specs.declared.number.Read8.TheVariants as Read8
 use Rattle.codec.specs.declared.number.Read16.TheVariants as Read16
 use Rattle.codec.specs.declared.number.Read32.TheVariants as Read32
 use Rattle.codec.specs.declared.ident.Kind.{Kind}
-use Rattle.codec.specs.declared.ident.Kind.TheVariants as Kind
 use Rattle.codec.specs.declared.ident.KindRead.TheVariants as KindRead
 use Rattle.codec.specs.declared.ident.Ident.{Ident}
-use Rattle.codec.specs.declared.ident.Ident.TheVariants as Ident
 use Rattle.codec.specs.declared.item.State.{State}
-use Rattle.codec.specs.declared.item.State.TheVariants as State
 use Rattle.codec.specs.declared.item.Item.{Item}
 use Rattle.codec.specs.declared.field.FlagsRead.TheVariants as FlagsRead
 use Rattle.codec.specs.declared.field.StateRead.TheVariants as StateRead
 use Rattle.codec.specs.declared.field.IdentRead.TheVariants as IdentRead
 use Rattle.codec.specs.declared.field.LoadRead.TheVariants as LoadRead
 use Rattle.codec.specs.declared.field.ItemRead.{ItemRead}
-use Rattle.codec.specs.declared.field.ItemRead.TheVariants as ItemRead
 use Rattle.codec.specs.declared.header.Header.{Header}
 use Rattle.codec.specs.declared.header.HeaderRead.{HeaderRead}
-use Rattle.codec.specs.declared.header.HeaderRead.TheVariants as HeaderRead
 use Rattle.codec.proofs.NumberLaws.{length-be, has_room_lem}
 use Rattle.codec.proofs.BoolLaws.{and_l, and_r}
 use Rattle.codec.proofs.ItemLaws.{set_small, set_known, ok-set, ok_state, ok_ident, ok_load, ok_short, channels_in, flexray_in, length_load, encode-length}

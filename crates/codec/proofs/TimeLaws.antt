@@ -10,9 +10,7 @@ use Rattle.codec.specs.declared.time.Time.{Time}
 use Rattle.codec.specs.declared.time.Ticks.{Ticks}
 use Rattle.codec.specs.declared.time.Nanos.{Nanos}
 use Rattle.codec.specs.declared.time.Elapsed.{Elapsed}
-use Rattle.codec.specs.declared.time.Elapsed.TheVariants as Elapsed
 use Rattle.codec.specs.declared.time.Span.{Span}
-use Rattle.codec.specs.declared.time.Span.TheVariants as Span
 use Rattle.codec.specs.Time.{ns, millis_of, ticks_of, behind_by, elapsed, span_of, overdue_of, recovered_of}
 
 pub back : (f t n : ℕ) → t < f → n ≡ behind_by f t → Span.Backwards (record { 0 = n }) ≡ span_of f t

@@ -12,7 +12,6 @@ use Rattle.codec.specs.Time.{ns, elapsed, ticks_of, recovered_of}
 use Rattle.codec.proofs.PidLaws.{pid_of}
 use Rattle.codec.specs.declared.time.Time.{Time}
 use Rattle.codec.specs.declared.time.Elapsed.{Elapsed}
-use Rattle.codec.specs.declared.time.Elapsed.TheVariants as Elapsed
 use Rattle.codec.specs.declared.refusal.Refusal.TheVariants as Refusal
 use Rattle.codec.specs.declared.ident.Kind.TheVariants as Kind
 use Rattle.codec.specs.declared.ident.Ident.TheVariants as Ident

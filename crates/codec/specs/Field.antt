@@ -6,23 +6,14 @@ use Rattle.codec.specs.Number.{fits, get8_of, get16_of, get32_of, part_of, open8
 use Rattle.codec.specs.Ident.{kind_in, open_kind, can_zero, can_range, pid_ok, channels_ok, flexray_range, most_of}
 use Rattle.codec.specs.Item.{set_ok, alone_in, state_ok}
 use Rattle.codec.specs.declared.refusal.Refusal.{Refusal}
-use Rattle.codec.specs.declared.refusal.Refusal.TheVariants as Refusal
 use Rattle.codec.specs.declared.ident.Kind.{Kind}
-use Rattle.codec.specs.declared.ident.Kind.TheVariants as Kind
 use Rattle.codec.specs.declared.ident.Ident.{Ident}
-use Rattle.codec.specs.declared.ident.Ident.TheVariants as Ident
 use Rattle.codec.specs.declared.item.State.{State}
-use Rattle.codec.specs.declared.item.State.TheVariants as State
 use Rattle.codec.specs.declared.field.FlagsRead.{FlagsRead}
-use Rattle.codec.specs.declared.field.FlagsRead.TheVariants as FlagsRead
 use Rattle.codec.specs.declared.field.StateRead.{StateRead}
-use Rattle.codec.specs.declared.field.StateRead.TheVariants as StateRead
 use Rattle.codec.specs.declared.field.IdentRead.{IdentRead}
-use Rattle.codec.specs.declared.field.IdentRead.TheVariants as IdentRead
 use Rattle.codec.specs.declared.field.LoadRead.{LoadRead}
-use Rattle.codec.specs.declared.field.LoadRead.TheVariants as LoadRead
 use Rattle.codec.specs.declared.field.ItemRead.{ItemRead}
-use Rattle.codec.specs.declared.field.ItemRead.TheVariants as ItemRead
 
 -- the refusal of a field is the refusal of the item; nothing asks this of a field that was got
 abbrev pub why_flags : FlagsRead → ItemRead

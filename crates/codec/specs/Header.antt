@@ -1,12 +1,10 @@
 -- The header of a frame (docs/RULES.md, "Frame bytes"; Specification of Bus Mirroring, 7.4.2.1), and its refusals in their order.
-use Rattle.std.specs.Prelude.{ℕ, ◌+◌, ◌-◌, List, [], ◌∷◌, ◌++◌, length, get_or, ltb, leb, eqb}
+use Rattle.std.specs.Prelude.{ℕ, ◌-◌, List, [], ◌∷◌, ◌++◌, length, get_or, ltb, leb, eqb}
 use Rattle.codec.specs.Choice.{pick}
 use Rattle.codec.specs.Number.{be, word}
 use Rattle.codec.specs.declared.refusal.Refusal.{Refusal}
-use Rattle.codec.specs.declared.refusal.Refusal.TheVariants as Refusal
 use Rattle.codec.specs.declared.header.Header.{Header}
 use Rattle.codec.specs.declared.header.HeaderRead.{HeaderRead}
-use Rattle.codec.specs.declared.header.HeaderRead.TheVariants as HeaderRead
 
 -- version 1, sequence number, header time (seconds 6, nanoseconds 4), DataLength (SWS_Mirror_00055 to 00063)
 unfoldable pub header_bytes : Header → List ℕ

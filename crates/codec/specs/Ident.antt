@@ -4,11 +4,8 @@ use Rattle.std.specs.Int.Bits.{bit_xor}
 use Rattle.codec.specs.Choice.{pick}
 use Rattle.codec.specs.Number.{be}
 use Rattle.codec.specs.declared.ident.Kind.{Kind}
-use Rattle.codec.specs.declared.ident.Kind.TheVariants as Kind
 use Rattle.codec.specs.declared.ident.Ident.{Ident}
-use Rattle.codec.specs.declared.ident.Ident.TheVariants as Ident
 use Rattle.codec.specs.declared.ident.KindRead.{KindRead}
-use Rattle.codec.specs.declared.ident.KindRead.TheVariants as KindRead
 
 -- SWS_Mirror_00074, table 7.2
 abbrev pub network_type : Kind → ℕ

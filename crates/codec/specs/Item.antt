@@ -4,11 +4,8 @@ use Rattle.codec.specs.Choice.{bit}
 use Rattle.codec.specs.Number.{be}
 use Rattle.codec.specs.Ident.{network_type, kind_of, ident_bytes, ident_bit, ident_ok, most_of}
 use Rattle.codec.specs.declared.ident.Kind.{Kind}
-use Rattle.codec.specs.declared.ident.Kind.TheVariants as Kind
 use Rattle.codec.specs.declared.ident.Ident.{Ident}
-use Rattle.codec.specs.declared.ident.Ident.TheVariants as Ident
 use Rattle.codec.specs.declared.item.State.{State}
-use Rattle.codec.specs.declared.item.State.TheVariants as State
 use Rattle.codec.specs.declared.item.Item.{Item}
 
 abbrev pub state_bytes : State → List ℕ

@@ -1,13 +1,11 @@
 -- A frame: the header, then the items one after the other (docs/RULES.md, "Frame bytes"; Specification of Bus Mirroring, 7.4.2).
-use Rattle.std.specs.Prelude.{ℕ, ◌+◌, ◌^◌, ◌<◌, ◌≤◌, ◌≡◌, true, List, [], ◌∷◌, ◌++◌, length}
+use Rattle.std.specs.Prelude.{ℕ, ◌^◌, ◌<◌, ◌≤◌, ◌≡◌, true, List, [], ◌∷◌, ◌++◌, length}
 use Rattle.codec.specs.Number.{Bytes}
 use Rattle.codec.specs.Header.{header_bytes}
 use Rattle.codec.specs.Item.{encode, item_ok}
 use Rattle.codec.specs.declared.time.Time.{Time}
 use Rattle.codec.specs.declared.ident.Ident.{Ident}
-use Rattle.codec.specs.declared.ident.Ident.TheVariants as Ident
 use Rattle.codec.specs.declared.item.State.{State}
-use Rattle.codec.specs.declared.item.State.TheVariants as State
 use Rattle.codec.specs.declared.item.Item.{Item}
 
 -- an item and the payload beside it

@@ -2,15 +2,10 @@
 use Rattle.std.specs.Prelude.{ℕ, zero, suc, ◌+◌, ◌*◌, ◌/◌, ◌%◌, ◌^◌, ◌<◌, ◌≤◌, ◌≡◌, Bool, true, false, List, [], ◌∷◌, ◌++◌, length, take, drop, get_or, leb}
 use Rattle.codec.specs.Choice.{pick}
 use Rattle.codec.specs.declared.number.Put.{Put}
-use Rattle.codec.specs.declared.number.Put.TheVariants as Put
 use Rattle.codec.specs.declared.number.Part.{Part}
-use Rattle.codec.specs.declared.number.Part.TheVariants as Part
 use Rattle.codec.specs.declared.number.Read8.{Read8}
-use Rattle.codec.specs.declared.number.Read8.TheVariants as Read8
 use Rattle.codec.specs.declared.number.Read16.{Read16}
-use Rattle.codec.specs.declared.number.Read16.TheVariants as Read16
 use Rattle.codec.specs.declared.number.Read32.{Read32}
-use Rattle.codec.specs.declared.number.Read32.TheVariants as Read32
 
 -- v without its n low bytes
 abbrev pub shr : ℕ → ℕ → ℕ

@@ -1,7 +1,6 @@
 -- The reader's refusals by their numbers (docs/RULES.md, "Reading a frame").
 use Rattle.std.specs.Prelude.{ℕ}
 use Rattle.codec.specs.declared.refusal.Refusal.{Refusal}
-use Rattle.codec.specs.declared.refusal.Refusal.TheVariants as Refusal
 
 abbrev pub number_of : Refusal → ℕ
 number_of Refusal.Short = 20

@@ -2,12 +2,8 @@
 use Rattle.std.specs.Prelude.{ℕ, ◌+◌, ◌-◌, ◌*◌, ◌/◌, ◌%◌, min, Bool, ◌&&◌, ltb, leb}
 use Rattle.codec.specs.Choice.{pick}
 use Rattle.codec.specs.declared.time.Time.{Time}
-use Rattle.codec.specs.declared.time.Ticks.{Ticks}
-use Rattle.codec.specs.declared.time.Nanos.{Nanos}
 use Rattle.codec.specs.declared.time.Elapsed.{Elapsed}
-use Rattle.codec.specs.declared.time.Elapsed.TheVariants as Elapsed
 use Rattle.codec.specs.declared.time.Span.{Span}
-use Rattle.codec.specs.declared.time.Span.TheVariants as Span
 
 -- all of a time in nanoseconds
 abbrev pub ns : Time → ℕ

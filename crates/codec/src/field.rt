@@ -173,7 +173,7 @@ fn flexray_ident(alone: bool, front: u8, low: u8, cycle: u8, next: usize) -> Ide
     IdentRead::Refused(Refusal::Reserved)
 }
 
-#[tactic(auto, unfolding(crate::specs::Field::read_flexray))]
+#[tactic(auto, using(crate::proofs::NumberLaws::part_room), unfolding(crate::specs::Field::read_flexray))]
 fn read_flexray(s: &[u8], at: usize, alone: bool) -> IdentRead
     ensures { result ≡ read_flexray s.now at alone }
 {
@@ -296,7 +296,7 @@ pub fn read_item(s: &[u8], at: usize) -> ItemRead
 }
 
 // The n bytes of s from index start, as that very part of s; nothing where they are not all there.
-#[tactic(auto, unfolding(crate::specs::Field::bytes_at))]
+#[tactic(auto, using(crate::proofs::NumberLaws::miss, crate::proofs::NumberLaws::hit), unfolding(crate::specs::Field::bytes_at))]
 pub fn part_at(s: &[u8], start: usize, n: usize) -> &[u8]
     ensures { result.now ≡ bytes_at s.now start n }
 {

@@ -93,6 +93,7 @@ pub fn can_fd(key: u32) -> bool
 }
 
 // Above the id's six bits stand P0, then P1. The other bits of a tap are masked away after the exclusive or.
+#[tactic(auto, using(crate::proofs::PidLaws::pid_asked))]
 pub fn pid_ok(pid: u32) -> bool
     ensures { result ≡ pid_ok pid }
 {

@@ -205,6 +205,7 @@ fn lay_state(out: &mut [u8], at: usize, state: State) -> usize
     }
 }
 
+#[tactic(auto, using(crate::proofs::ItemLaws::front_sum))]
 fn flexray_front(channels: u8, slot: u16) -> u8
     requires channels_bound { channels ≤ 3 }
     requires slot_bound { slot ≤ 2047 }

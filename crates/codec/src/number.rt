@@ -46,6 +46,7 @@ fn wide(x: u8) -> u64
 }
 
 // The n low bytes of v, from the last to the first: one function for every width.
+#[tactic(auto, using(crate::proofs::NumberLaws::down_first, crate::proofs::NumberLaws::down, crate::proofs::NumberLaws::down_last, crate::proofs::NumberLaws::full))]
 pub fn put_be(out: &mut [u8], at: usize, v: u64, n: usize) -> Put
     ensures { Wrote true out.old at (be n v) out.new result }
 {
@@ -66,6 +67,7 @@ pub fn put_be(out: &mut [u8], at: usize, v: u64, n: usize) -> Put
 }
 
 // Bytes as they are.
+#[tactic(auto, using(crate::proofs::NumberLaws::full, crate::proofs::NumberLaws::copying_first, crate::proofs::NumberLaws::copying_more, crate::proofs::NumberLaws::copying_end))]
 pub fn put_bytes(out: &mut [u8], at: usize, src: &[u8]) -> Put
     ensures { Wrote true out.old at src.now out.new result }
 {
@@ -85,6 +87,7 @@ pub fn put_bytes(out: &mut [u8], at: usize, src: &[u8]) -> Put
 }
 
 // The n bytes from index at as a number: one function for every width that fits 64 bits.
+#[tactic(auto, using(crate::proofs::NumberLaws::up_first, crate::proofs::NumberLaws::up, crate::proofs::NumberLaws::up_last, crate::proofs::NumberLaws::room_up))]
 fn word_be(s: &[u8], at: usize, n: usize) -> u64
     requires n_in_bounds { at + n ≤ length s.now }
     requires n_bound { n ≤ 8 }
@@ -114,7 +117,7 @@ pub fn word_at(s: &[u8], at: usize, n: usize) -> u64
     word_be(s, at, n)
 }
 
-#[tactic(auto, unfolding(crate::specs::Number::get8_of))]
+#[tactic(auto, using(crate::proofs::NumberLaws::miss, crate::proofs::NumberLaws::hit), unfolding(crate::specs::Number::get8_of))]
 pub fn get8(s: &[u8], at: usize) -> Read8
     ensures { result ≡ get8_of s.now at }
 {
@@ -127,7 +130,7 @@ pub fn get8(s: &[u8], at: usize) -> Read8
     Read8::Got(s[at], at + 1)
 }
 
-#[tactic(auto, unfolding(crate::specs::Number::get16_of))]
+#[tactic(auto, using(crate::proofs::NumberLaws::miss, crate::proofs::NumberLaws::hit), unfolding(crate::specs::Number::get16_of))]
 pub fn get16(s: &[u8], at: usize) -> Read16
     ensures { result ≡ get16_of s.now at }
 {
@@ -140,7 +143,7 @@ pub fn get16(s: &[u8], at: usize) -> Read16
     Read16::Got(word_be(s, at, 2) as u16, at + 2)
 }
 
-#[tactic(auto, unfolding(crate::specs::Number::get32_of))]
+#[tactic(auto, using(crate::proofs::NumberLaws::miss, crate::proofs::NumberLaws::hit), unfolding(crate::specs::Number::get32_of))]
 pub fn get32(s: &[u8], at: usize) -> Read32
     ensures { result ≡ get32_of s.now at }
 {
@@ -154,7 +157,7 @@ pub fn get32(s: &[u8], at: usize) -> Read32
 }
 
 // The index past n bytes at index at.
-#[tactic(auto, unfolding(crate::specs::Number::part_of))]
+#[tactic(auto, using(crate::proofs::NumberLaws::miss, crate::proofs::NumberLaws::hit), unfolding(crate::specs::Number::part_of))]
 pub fn get_part(s: &[u8], at: usize, n: usize) -> Part
     ensures { result ≡ part_of s.now at n }
 {

@@ -88,6 +88,7 @@ fn cut(n: Nanos) -> Nanos
 }
 
 // Both counted from one second, so that the difference fits 64 bits.
+#[tactic(auto, using(crate::proofs::TimeLaws::back, crate::proofs::TimeLaws::near, crate::proofs::TimeLaws::far))]
 fn between(a: Nanos, b: Nanos) -> Span
     ensures { result ≡ span_of a.0 b.0 }
 {
@@ -104,6 +105,7 @@ fn between(a: Nanos, b: Nanos) -> Span
 }
 
 // Seconds far apart settle the answer, whatever the nanosecond fields hold.
+#[tactic(auto, using(crate::proofs::TimeLaws::back, crate::proofs::TimeLaws::far, crate::proofs::TimeLaws::shift))]
 fn apart(from: Time, to: Time) -> Span
     ensures { result ≡ span_of (ns from) (ns to) }
 {
@@ -131,6 +133,7 @@ fn apart(from: Time, to: Time) -> Span
 }
 
 // From a header time to a reading of the clock.
+#[tactic(auto, using(crate::proofs::TimeLaws::by_span))]
 pub fn measure(from: Time, to: Time) -> Elapsed
     ensures { result ≡ elapsed (ns from) (ns to) }
 {
@@ -142,6 +145,7 @@ pub fn measure(from: Time, to: Time) -> Elapsed
 }
 
 // The deadline, where there is one, has passed since the header time.
+#[tactic(auto, using(crate::proofs::TimeLaws::by_deadline))]
 pub fn overdue(from: Time, to: Time, deadline: Millis) -> bool
     ensures { result ≡ overdue_of (ns from) (ns to) deadline.0 }
 {
@@ -157,6 +161,7 @@ pub fn overdue(from: Time, to: Time, deadline: Millis) -> bool
 }
 
 // The time that an offset stands for. It may run into the second after the last one that a header can hold.
+#[tactic(auto, using(crate::proofs::TimeLaws::recovered_fits, crate::proofs::TimeLaws::recovered_cut))]
 pub fn recovered(header: Time, offset: Ticks) -> Time
     ensures { result ≡ recovered_of header offset.0 }
 {
