@@ -1,5 +1,5 @@
 -- Every call of a sound framer leaves a sound framer.
-use Rattle.std.proofs.Common.{◌≡◌, ℕ, ◌+◌, ◌-◌, ◌≤◌, Bool, true, false, not, ◌&&◌, ◌||◌, eqb, ltb, leb, List, length, sym, refl, ap, arith, ltb-false, ltb-true, ne_eqb, le-leb, leb-true}
+use Rattle.std.proofs.Common.{◌≡◌, ℕ, ◌+◌, ◌≤◌, Bool, true, false, not, ◌&&◌, ◌||◌, eqb, ltb, leb, List, length, sym, refl, ap, arith, ltb-false, ltb-true, ne_eqb, le-leb, leb-true}
 use Rattle.codec.specs.Choice.{pick, bit}
 use Rattle.codec.specs.Time.{ns, time_ok, elapsed, overdue_of}
 use Rattle.codec.specs.Ident.{ident_bytes}

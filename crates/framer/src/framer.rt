@@ -10,7 +10,7 @@ use codec::header::Header;
 use codec::item::Item;
 use codec::time::{Millis, Time};
 
-#[derive(Drop)]
+#[derive(Clone, Copy)]
 pub struct Framer {
     pub meter: Meter,
     pub bytes: [u8; 1024],
@@ -18,7 +18,7 @@ pub struct Framer {
 }
 
 // What a take comes to: the answer, and how long the frame is that was taken.
-#[derive(Drop)]
+#[derive(Clone, Copy)]
 pub struct Taken {
     pub framer: Framer,
     pub answer: u8,

@@ -7,7 +7,7 @@ use crate::offer::Offer;
 use codec::item::{Item, State};
 use codec::time::{Elapsed, Millis, Nanos, Ticks, Time};
 
-#[derive(Drop)]
+#[derive(Clone, Copy)]
 pub struct Meter {
     // frame size F, queue room Q and deadline D
     pub size: usize,

@@ -1,7 +1,7 @@
 // What a source hands over to be mirrored: everything of an item but its offset and the lost bit.
 use codec::ident::Ident;
 
-#[derive(Drop)]
+#[derive(Clone, Copy)]
 pub struct Offer {
     pub network: u8,
     pub ident: Ident,

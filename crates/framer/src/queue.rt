@@ -3,7 +3,7 @@ ghost use Rattle.std.specs.Prelude.{◌≡◌, ◌*◌, ◌≤◌, length};
 ghost use Rattle.codec.specs.Number.{Below, over};
 ghost use Rattle.framer.specs.Queue.{empty_queue, queued, length_at};
 
-#[derive(Drop)]
+#[derive(Clone, Copy)]
 pub struct Queue {
     pub bytes: [u8; 8192],
     pub lengths: [u16; 8],

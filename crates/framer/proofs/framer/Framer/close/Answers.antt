@@ -1,0 +1,9 @@
+use Rattle.std.proofs.Common.{refl}
+use Rattle.framer.proofs.FramerLaws.{close_kept, close_lost}
+use Rattle.framer.proofs.framer.Framer.close.Goals as goal
+
+pub returns-then-m : goal.returns-then-m
+returns-then-m c = close_kept _ _ _ _ _ c.closed_meter-self.ensures c.if-m.true c.slot.ensures.is refl c.put-self.ensures
+
+pub returns : goal.returns
+returns c = close_lost _ _ c.closed_meter-self.ensures c.if-m.false
