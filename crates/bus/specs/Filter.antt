@@ -4,11 +4,8 @@ use Rattle.std.specs.Int.Bits.{bit_and}
 use Rattle.codec.specs.Choice.{pick}
 use Rattle.codec.specs.Ident.{network_type}
 use Rattle.codec.specs.declared.ident.Kind.{Kind}
-use Rattle.codec.specs.declared.ident.Kind.TheVariants as Kind
 use Rattle.codec.specs.declared.ident.Ident.{Ident}
-use Rattle.codec.specs.declared.ident.Ident.TheVariants as Ident
 use Rattle.bus.specs.declared.filter.Filter.{Filter}
-use Rattle.bus.specs.declared.filter.Filter.TheVariants as Filter
 use Rattle.bus.specs.declared.filter.Addition.{Addition}
 
 -- a mask filter matches when key AND mask equals code, a range filter when the key is within its bounds

@@ -7,7 +7,6 @@ use Rattle.codec.specs.Ident.{ident_ok, kind_of, most_of, channels_ok, flexray_r
 use Rattle.codec.specs.Item.{item_length}
 use Rattle.codec.specs.declared.time.Time.{Time}
 use Rattle.codec.specs.declared.ident.Ident.{Ident}
-use Rattle.codec.specs.declared.ident.Ident.TheVariants as Ident
 use Rattle.codec.specs.declared.item.State.TheVariants as State
 use Rattle.framer.specs.declared.offer.Offer.{Offer}
 use Rattle.bus.specs.Filter.{filtered, same_kind}

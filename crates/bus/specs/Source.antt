@@ -2,13 +2,10 @@
 use Rattle.std.specs.Prelude.{ℕ, suc, Bool, true, false, not, ◌&&◌, ◌||◌, List, [], ◌∷◌, replicate, get_or, set, leb, ltb, eqb}
 use Rattle.codec.specs.Choice.{pick}
 use Rattle.codec.specs.declared.ident.Kind.{Kind}
-use Rattle.codec.specs.declared.ident.Kind.TheVariants as Kind
 use Rattle.codec.specs.declared.ident.Ident.{Ident}
-use Rattle.codec.specs.declared.ident.Ident.TheVariants as Ident
 use Rattle.framer.specs.declared.offer.Offer.{Offer}
 use Rattle.bus.specs.Filter.{matches, is_free, same_kind}
 use Rattle.bus.specs.declared.filter.Filter.{Filter}
-use Rattle.bus.specs.declared.filter.Filter.TheVariants as Filter
 use Rattle.bus.specs.declared.filter.Place.{Place}
 use Rattle.bus.specs.declared.filter.Addition.{Addition}
 use Rattle.bus.specs.declared.source.Source.{Source}

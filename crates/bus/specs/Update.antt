@@ -2,7 +2,6 @@
 use Rattle.std.specs.Prelude.{ℕ, ◌+◌, ◌*◌, ◌/◌, ◌%◌, min, Bool, true, not, ◌&&◌, leb, eqb}
 use Rattle.codec.specs.Choice.{pick, bit}
 use Rattle.codec.specs.declared.ident.Kind.{Kind}
-use Rattle.codec.specs.declared.ident.Kind.TheVariants as Kind
 use Rattle.bus.specs.Filter.{same_kind}
 use Rattle.bus.specs.declared.source.Source.{Source}
 use Rattle.bus.specs.declared.update.Update.{Update}

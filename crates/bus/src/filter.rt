@@ -6,7 +6,7 @@ ghost use Rattle.bus.specs.Filter.{keyed, slotted, matches, filtered, is_free, s
 
 use codec::ident::{Ident, Kind};
 
-#[derive(Drop)]
+#[derive(Clone, Copy)]
 pub enum Filter {
     Free,
     Mask {
@@ -27,13 +27,13 @@ pub enum Filter {
 }
 
 // One of a source's eight places.
-#[derive(Drop)]
+#[derive(Clone, Copy)]
 pub struct Place {
     pub filter: Filter,
 }
 
 // A filter to be added, and whether its numbers are in range.
-#[derive(Drop)]
+#[derive(Clone, Copy)]
 pub struct Addition {
     pub source: u64,
     pub kind: Kind,

@@ -10,7 +10,7 @@ use codec::item::{Item, State};
 use codec::time::{Ticks, Time};
 use framer::offer::Offer;
 
-#[derive(Drop)]
+#[derive(Clone, Copy)]
 pub struct Report {
     pub source: u64,
     pub time: Time,

@@ -8,7 +8,7 @@ use crate::filter::{Addition, Filter, Place};
 use codec::ident::{Ident, Kind};
 use framer::offer::Offer;
 
-#[derive(Drop)]
+#[derive(Clone, Copy)]
 pub struct Source {
     pub kind: Kind,
     pub network: u8,

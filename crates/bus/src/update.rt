@@ -6,7 +6,7 @@ ghost use Rattle.codec.specs.Number.{Below};
 use crate::source::Source;
 use codec::ident::Kind;
 
-#[derive(Drop)]
+#[derive(Clone, Copy)]
 pub struct Update {
     pub source: u64,
     pub kind: Kind,
@@ -24,7 +24,7 @@ fn counter_bits(counter: u32) -> u8
     if eighth <= 15 { eighth as u8 } else { 15 }
 }
 
-#[tactic(auto, unfolding(crate::specs::Update::can_byte))]
+#[tactic(auto, using(crate::proofs::BusLaws::can_made), unfolding(crate::specs::Update::can_byte))]
 fn can_byte(online: bool, passive: bool, bus_off: bool, counter: u32) -> u8
     ensures { result ≡ can_byte online passive bus_off counter }
 {
