@@ -10,7 +10,7 @@ use codec::time::{Millis, Nanos};
 use framer::framer::Framer;
 use framer::meter::Meter;
 
-#[derive(Drop)]
+#[derive(Clone, Copy)]
 pub struct Engine {
     // how many sources there are, 0 before setup
     pub count: usize,
@@ -19,7 +19,7 @@ pub struct Engine {
 }
 
 // What most calls come to: the engine after them, and the answer's number.
-#[derive(Drop)]
+#[derive(Clone, Copy)]
 pub struct Outcome {
     pub engine: Engine,
     pub answer: u8,
@@ -27,7 +27,7 @@ pub struct Outcome {
 
 // What a report or a tick comes to. Beside 0 it tells how far the clock stood behind the frame being filled; 0 where it did not,
 // and beside a refusal.
-#[derive(Drop)]
+#[derive(Clone, Copy)]
 pub struct Timed {
     pub engine: Engine,
     pub answer: u8,
@@ -35,7 +35,7 @@ pub struct Timed {
 }
 
 // The discard count or the failure count, 0 beside a refusal.
-#[derive(Drop)]
+#[derive(Clone, Copy)]
 pub struct Counted {
     pub answer: u8,
     pub count: u32,

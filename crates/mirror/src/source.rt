@@ -11,7 +11,7 @@ use bus::source::Source;
 use bus::update::Update;
 
 // The number of a filter that was added, 0 beside a refusal.
-#[derive(Drop)]
+#[derive(Clone, Copy)]
 pub struct Added {
     pub engine: Engine,
     pub answer: u8,

@@ -5,7 +5,7 @@ ghost use Rattle.mirror.specs.Take.{taken_of, output_of};
 use crate::engine::Engine;
 
 // The length of the frame that was taken, 0 beside a refusal.
-#[derive(Drop)]
+#[derive(Clone, Copy)]
 pub struct Taken {
     pub engine: Engine,
     pub answer: u8,

@@ -13,10 +13,8 @@ use Rattle.codec.specs.Layout.{Entry}
 use Rattle.codec.specs.declared.item.Item.{Item}
 use Rattle.codec.specs.declared.refusal.Refusal.{Refusal}
 use Rattle.codec.specs.declared.field.ItemRead.{ItemRead}
-use Rattle.codec.specs.declared.field.ItemRead.TheVariants as ItemRead
 use Rattle.codec.proofs.Inverse.{read_room}
 use Rattle.reader.specs.declared.frame.Verdict.{Verdict}
-use Rattle.reader.specs.declared.frame.Verdict.TheVariants as Verdict
 use Rattle.reader.specs.Frame.{along, walk_of, starts_of, items_of}
 
 module _ {A : Type 0} (done : A) (bad : Refusal → A) (more : ℕ → Item → ℕ → ℕ → A → A) (s : List ℕ) where

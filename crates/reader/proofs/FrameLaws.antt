@@ -1,5 +1,5 @@
 -- What an accepted frame's items lay out to. Assumes nothing.
-use Prim.Native.Nat.{ℕ, zero, suc, ◌+◌, ◌-◌, ◌≤◌, ◌<◌}
+use Prim.Native.Nat.{ℕ, zero, suc, ◌+◌, ◌≤◌, ◌<◌}
 use mathlib.Core.Path.{◌≡◌, refl, sym, ◌∙◌, ap}
 use mathlib.Core.Bool.{Bool, true, false}
 use mathlib.Core.List.{List, [], ◌++◌}
@@ -19,20 +19,15 @@ use Rattle.codec.specs.declared.refusal.Refusal.{Refusal}
 use Rattle.codec.specs.declared.number.Put.{Put}
 use Rattle.codec.specs.declared.header.Header.{Header}
 use Rattle.codec.specs.declared.header.HeaderRead.{HeaderRead}
-use Rattle.codec.specs.declared.header.HeaderRead.TheVariants as HeaderRead
 use Rattle.codec.specs.declared.field.ItemRead.{ItemRead}
-use Rattle.codec.specs.declared.field.ItemRead.TheVariants as ItemRead
 use Rattle.codec.proofs.NumberLaws.{over-over, kept, length_over}
 use Rattle.codec.proofs.HeaderLaws.{header_length}
 use Rattle.codec.proofs.Opened.{never}
 use Rattle.codec.proofs.Inverse.{read_room, item_forth, header_got, header_forth}
 use Rattle.reader.proofs.AlongLaws.{walk_item, walk_bad, items_end, items_item}
 use Rattle.reader.specs.declared.frame.Verdict.{Verdict}
-use Rattle.reader.specs.declared.frame.Verdict.TheVariants as Verdict
 use Rattle.reader.specs.declared.frame.Judged.{Judged}
-use Rattle.reader.specs.declared.frame.Judged.TheVariants as Judged
 use Rattle.reader.specs.declared.copy.Rewritten.{Rewritten}
-use Rattle.reader.specs.declared.copy.Rewritten.TheVariants as Rewritten
 use Rattle.reader.specs.Frame.{walk_of, items_of, Clean, judged_by, open_header, judge_of, laid_out, rewrite_of, rewritten_of}
 
 -- a clean walk meets no refusal

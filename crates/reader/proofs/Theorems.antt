@@ -1,5 +1,5 @@
 -- Demand 2 for frames as byte strings. Assumes nothing.
-use Prim.Native.Nat.{ℕ, zero, suc, ◌+◌, ◌-◌, ◌≤◌, ◌<◌}
+use Prim.Native.Nat.{ℕ, zero, suc, ◌+◌, ◌≤◌, ◌<◌}
 use mathlib.Core.Path.{◌≡◌, refl, sym, ◌∙◌, ap}
 use mathlib.Core.Bool.{Bool, true, ◌||◌}
 use mathlib.Core.List.{List, [], ◌∷◌, ◌++◌, append-nil}
@@ -18,9 +18,7 @@ use Rattle.codec.specs.declared.time.Time.{Time}
 use Rattle.codec.specs.declared.item.Item.{Item}
 use Rattle.codec.specs.declared.header.Header.{Header}
 use Rattle.codec.specs.declared.header.HeaderRead.{HeaderRead}
-use Rattle.codec.specs.declared.header.HeaderRead.TheVariants as HeaderRead
 use Rattle.codec.specs.declared.field.ItemRead.{ItemRead}
-use Rattle.codec.specs.declared.field.ItemRead.TheVariants as ItemRead
 use Rattle.codec.proofs.Stands.{Stands, left, right, part_back, bytes_join}
 use Rattle.codec.proofs.Inverse.{read_room, item_forth, header_got, header_forth}
 use Rattle.codec.proofs.RoundTrip.{item_back, payload_back, header_back, encode_bytes, header-bytes}
@@ -30,11 +28,8 @@ use Rattle.codec.proofs.HeaderLaws.{header_length}
 use Rattle.reader.proofs.AlongLaws.{walk_end, walk_item, items_end, items_item, starts_item, starts_here, starts_last}
 use Rattle.reader.proofs.FrameLaws.{accepted, all_along, laid_length, body-length}
 use Rattle.reader.specs.declared.frame.Judged.{Judged}
-use Rattle.reader.specs.declared.frame.Judged.TheVariants as Judged
 use Rattle.reader.specs.declared.frame.Verdict.{Verdict}
-use Rattle.reader.specs.declared.frame.Verdict.TheVariants as Verdict
 use Rattle.reader.specs.declared.place.Stepped.{Stepped}
-use Rattle.reader.specs.declared.place.Stepped.TheVariants as Stepped
 use Rattle.reader.specs.Frame.{walk_of, items_of, starts_of, Clean, judge_of, laid_out, step_of, held_of, payload_of, payload_at_of, item_at_of, time_in}
 use Rattle.reader.specs.Listing.{stepping, listing, places_of, among, Framed}
 
@@ -143,7 +138,9 @@ last_place [] at = simp (eq-eqb at (at + 0) (omega arith))
 last_place (e ∷ es) at =
     let n : at + length (body (e ∷ es)) ≡ at + length (encode e.item e.payload) + length (body es)
     = omega (arith, length-append (encode e.item e.payload) (body es)) in
-    rw (n, last_place es (at + length (encode e.item e.payload))) (or_true (eqb at (at + length (encode e.item e.payload) + length (body es))))
+    let x : among (at + length (body (e ∷ es))) (places_of (at + length (encode e.item e.payload)) es) ≡ true
+    = ap (λ (k : ℕ). among k (places_of (at + length (encode e.item e.payload)) es)) n ∙ last_place es (at + length (encode e.item e.payload)) in
+    rw x (or_true (eqb at (at + length (body (e ∷ es)))))
 
 module _ (s : List ℕ) (b : Bytes s) {h : Header} (j : judge_of s ≡ Judged.Frame h) where
   pub time_is : time_in s ≡ h.time

@@ -2,7 +2,7 @@
 -- top are exactly the frames that hold an error without a frame, which the narrow layout refuses with 25. Assumes nothing.
 use Prim.Native.Nat.{ℕ, zero, suc, ◌-◌}
 use mathlib.Core.Path.{◌≡◌, refl, sym, ◌∙◌, ap}
-use mathlib.Core.Logic.{◌⊎◌, inl, inr}
+use mathlib.Core.Logic.{inl, inr}
 use mathlib.Core.Bool.{Bool, true, false, ◌||◌}
 use mathlib.Core.List.{List, [], ◌∷◌}
 use lib.ListN.{length}
@@ -13,17 +13,13 @@ use Rattle.codec.specs.Field.{read_item, bytes_at}
 use Rattle.codec.specs.Header.{read_header}
 use Rattle.codec.specs.Layout.{Entry, AllValid}
 use Rattle.codec.specs.declared.refusal.Refusal.{Refusal}
-use Rattle.codec.specs.declared.refusal.Refusal.TheVariants as Refusal
 use Rattle.codec.specs.declared.item.Item.{Item}
 use Rattle.codec.specs.declared.field.ItemRead.{ItemRead}
-use Rattle.codec.specs.declared.field.ItemRead.TheVariants as ItemRead
 use Rattle.codec.specs.declared.header.Header.{Header}
 use Rattle.codec.proofs.Opened.{never}
 use Rattle.codec.proofs.Narrow.{narrow_item, is_error, Wider, item_wider, ErrorEntry, error_entry}
 use Rattle.reader.specs.declared.frame.Judged.{Judged}
-use Rattle.reader.specs.declared.frame.Judged.TheVariants as Judged
 use Rattle.reader.specs.declared.frame.Verdict.{Verdict}
-use Rattle.reader.specs.declared.frame.Verdict.TheVariants as Verdict
 use Rattle.reader.specs.Frame.{open_item, along, walk_of, items_of, judged_by, open_header, judge_of}
 use Rattle.reader.proofs.FrameLaws.{judged_clean, accepted}
 use Rattle.reader.proofs.Theorems.{accepts}

@@ -4,11 +4,8 @@ use Rattle.std.specs.Prelude.{ℕ}
 use Rattle.codec.specs.Refusal.{number_of}
 use Rattle.codec.specs.declared.header.Header.{Header}
 use Rattle.reader.specs.declared.frame.Judged.{Judged}
-use Rattle.reader.specs.declared.frame.Judged.TheVariants as Judged
 use Rattle.reader.specs.declared.place.Stepped.{Stepped}
-use Rattle.reader.specs.declared.place.Stepped.TheVariants as Stepped
 use Rattle.reader.specs.declared.copy.Rewritten.{Rewritten}
-use Rattle.reader.specs.declared.copy.Rewritten.TheVariants as Rewritten
 
 abbrev pub judged_number : Judged → ℕ
 judged_number (Judged.Frame h) = 0

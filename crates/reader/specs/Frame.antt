@@ -8,21 +8,14 @@ use Rattle.codec.specs.Header.{read_header}
 use Rattle.codec.specs.Layout.{Entry, layout}
 use Rattle.codec.specs.declared.time.Time.{Time}
 use Rattle.codec.specs.declared.refusal.Refusal.{Refusal}
-use Rattle.codec.specs.declared.refusal.Refusal.TheVariants as Refusal
 use Rattle.codec.specs.declared.item.Item.{Item}
 use Rattle.codec.specs.declared.field.ItemRead.{ItemRead}
-use Rattle.codec.specs.declared.field.ItemRead.TheVariants as ItemRead
 use Rattle.codec.specs.declared.header.Header.{Header}
 use Rattle.codec.specs.declared.header.HeaderRead.{HeaderRead}
-use Rattle.codec.specs.declared.header.HeaderRead.TheVariants as HeaderRead
 use Rattle.reader.specs.declared.frame.Judged.{Judged}
-use Rattle.reader.specs.declared.frame.Judged.TheVariants as Judged
 use Rattle.reader.specs.declared.frame.Verdict.{Verdict}
-use Rattle.reader.specs.declared.frame.Verdict.TheVariants as Verdict
 use Rattle.reader.specs.declared.place.Stepped.{Stepped}
-use Rattle.reader.specs.declared.place.Stepped.TheVariants as Stepped
 use Rattle.reader.specs.declared.copy.Rewritten.{Rewritten}
-use Rattle.reader.specs.declared.copy.Rewritten.TheVariants as Rewritten
 
 -- an item read at a place: what to do with it, and with a refusal
 abbrev pub open_item : {A : Type 0} → ItemRead → (Item → ℕ → ℕ → ℕ → A) → (Refusal → A) → A

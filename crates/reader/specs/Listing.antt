@@ -7,7 +7,6 @@ use Rattle.codec.specs.declared.time.Time.{Time}
 use Rattle.codec.specs.declared.item.Item.{Item}
 use Rattle.codec.specs.declared.header.Header.{Header}
 use Rattle.reader.specs.declared.place.Stepped.{Stepped}
-use Rattle.reader.specs.declared.place.Stepped.TheVariants as Stepped
 use Rattle.reader.specs.Frame.{step_of, payload_of}
 
 -- one step: the item, where it stands, where the next one does, its time and its payload

@@ -14,9 +14,7 @@ use Rattle.codec.specs.declared.header.Header.{Header}
 use Rattle.codec.specs.declared.refusal.Refusal.{Refusal}
 use Rattle.reader.specs.Frame.{judge_of}
 use Rattle.reader.specs.declared.frame.Judged.{Judged}
-use Rattle.reader.specs.declared.frame.Judged.TheVariants as Judged
 use Rattle.recording.specs.declared.field.Found.{Found}
-use Rattle.recording.specs.declared.field.Found.TheVariants as Found
 use Rattle.recording.specs.File.{frame_found, note_found, start_in, start_found, verdict, keeps}
 
 module _ (n : ℕ) (body : List ℕ) where

@@ -18,7 +18,6 @@ use Rattle.recording.specs.Calls.{noted}
 use Rattle.recording.specs.declared.field.Found.{Found}
 use Rattle.recording.specs.declared.pieces.Place.{Place}
 use Rattle.recording.specs.declared.pieces.Seen.{Seen}
-use Rattle.recording.specs.declared.pieces.Seen.TheVariants as Seen
 use Rattle.recording.proofs.FieldLaws.{keeps_short, unkept}
 use Rattle.recording.proofs.PlaceLaws.{sound_same, head_old, head_new, get_any, used_all, used_rest, ends_more, ends_done}
 use Rattle.recording.proofs.FileLaws.{there, not_yet, is_cut, body-length, get_right}

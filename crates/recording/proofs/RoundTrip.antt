@@ -1,5 +1,5 @@
 -- What was written lists as that very field; what was listed writes back as the same bytes. Assumes nothing.
-use Prim.Native.Nat.{ℕ, zero, suc, ◌+◌, ◌-◌, ◌*◌, ◌/◌, ◌%◌, ◌≤◌}
+use Prim.Native.Nat.{ℕ, zero, suc, ◌+◌, ◌*◌, ◌/◌, ◌%◌, ◌≤◌}
 use mathlib.Core.Path.{◌≡◌, refl, sym, ◌∙◌, ap}
 use mathlib.Core.Bool.{Bool, true, false, ◌&&◌}
 use mathlib.Core.List.{List, [], ◌∷◌, ◌++◌, map, append_assoc, append-nil}
@@ -15,7 +15,6 @@ use Rattle.codec.specs.Refusal.{number_of}
 use Rattle.codec.specs.declared.time.Time.{Time}
 use Rattle.codec.specs.declared.header.Header.{Header}
 use Rattle.codec.specs.declared.refusal.Refusal.{Refusal}
-use Rattle.codec.specs.declared.refusal.Refusal.TheVariants as Refusal
 use Rattle.codec.proofs.Opened.{never}
 use Rattle.codec.proofs.BoolLaws.{and_l, and_r}
 use Rattle.codec.proofs.NumberLaws.{word_is}
@@ -24,12 +23,10 @@ use Rattle.codec.proofs.Stands.{join as join_Stands}
 use Rattle.reader.specs.Frame.{judge_of, open_judged}
 use Rattle.reader.specs.Answer.{judged_number}
 use Rattle.reader.specs.declared.frame.Judged.{Judged}
-use Rattle.reader.specs.declared.frame.Judged.TheVariants as Judged
 use Rattle.recording.specs.File.{Raw, length_in, size_in, complete, first, fields_of, left_of, frame_found, note_found, start_in, start_found, verdict, keeps, finding_of, findings_of}
 use Rattle.recording.specs.Write.{field_bytes, start_bytes, frame_answer, note_answer, start_answer}
 use Rattle.recording.specs.Trip.{answer_in, good, AllGood, raw_bytes, file_of, again_by, again, again_all}
 use Rattle.recording.specs.declared.field.Found.{Found}
-use Rattle.recording.specs.declared.field.Found.TheVariants as Found
 use Rattle.recording.proofs.FieldLaws.{frame_good, start_good, is_start, is_other}
 use Rattle.recording.proofs.WriteLaws.{field_length}
 use Rattle.recording.proofs.FileLaws.{there, is_there, is_cut, body-length, fields_more, fields_end, left_more, left_end}

@@ -4,7 +4,6 @@ use mathlib.Core.Path.{◌≡◌, refl}
 use mathlib.Core.List.{List, [], ◌∷◌, ◌++◌}
 use Rattle.recording.specs.File.{listing_of, complete, along, fields_of, left_of, frame_found, note_found, start_in, start_found, verdict, keeps, findings_of}
 use Rattle.recording.specs.declared.field.Found.{Found}
-use Rattle.recording.specs.declared.field.Found.TheVariants as Found
 use Rattle.codec.specs.Number.{word, word_at, fits}
 use Rattle.codec.specs.Header.{read_header}
 use Rattle.reader.specs.Frame.{judge_of}

@@ -6,7 +6,7 @@ use mathlib.Core.List.{List, [], ◌++◌, append-nil}
 use native.Mathlib.Omega.{arith}
 use lib.ListN.{length, set, drop_of_length-le}
 use borrow.Author.Tests.{lt-ltb, le-ltb, ne_eqb}
-use Rattle.codec.specs.Number.{be, over, Wrote, Laid}
+use Rattle.codec.specs.Number.{be, Wrote, Laid}
 use Rattle.codec.specs.Time.{time_ok}
 use Rattle.codec.specs.declared.number.Put.{Put}
 use Rattle.codec.specs.declared.time.Time.{Time}
@@ -15,7 +15,6 @@ use Rattle.reader.specs.Frame.{judge_of}
 use Rattle.reader.specs.Answer.{judged_number}
 use Rattle.recording.specs.Write.{Recorded, field_bytes, start_bytes, frame_answer, note_answer, start_answer}
 use Rattle.recording.specs.declared.write.Written.{Written}
-use Rattle.recording.specs.declared.write.Written.TheVariants as Written
 
 pub field_length : (tag : ℕ) (body : List ℕ) → length (field_bytes tag body) ≡ 3 + length body
 unfolding field_bytes

@@ -3,10 +3,8 @@ use Rattle.std.specs.Prelude.{ℕ, zero, suc, List, [], ◌∷◌, ◌++◌, len
 use Rattle.codec.specs.Choice.{pick}
 use Rattle.recording.specs.File.{Finding, Listing, keeps}
 use Rattle.recording.specs.Pieces.{fresh, next_of, kept_of, finish_of}
-use Rattle.recording.specs.declared.field.Field.{Field}
 use Rattle.recording.specs.declared.pieces.Place.{Place}
 use Rattle.recording.specs.declared.pieces.Seen.{Seen}
-use Rattle.recording.specs.declared.pieces.Seen.TheVariants as Seen
 
 -- what the caller has after some calls
 pub record Ran : Type 0 where

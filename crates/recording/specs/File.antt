@@ -7,7 +7,6 @@ use Rattle.codec.specs.Refusal.{number_of}
 use Rattle.codec.specs.declared.time.Time.{Time}
 use Rattle.reader.specs.Frame.{judge_of, open_judged}
 use Rattle.recording.specs.declared.field.Found.{Found}
-use Rattle.recording.specs.declared.field.Found.TheVariants as Found
 
 -- a complete field
 pub record Raw : Type 0 where

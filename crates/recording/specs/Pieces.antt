@@ -5,10 +5,8 @@ use Rattle.codec.specs.Number.{over, fits}
 use Rattle.codec.specs.Field.{bytes_at}
 use Rattle.recording.specs.File.{verdict, keeps, skip_bit, end_of}
 use Rattle.recording.specs.declared.field.Found.{Found}
-use Rattle.recording.specs.declared.field.Field.{Field}
 use Rattle.recording.specs.declared.pieces.Place.{Place}
 use Rattle.recording.specs.declared.pieces.Seen.{Seen}
-use Rattle.recording.specs.declared.pieces.Seen.TheVariants as Seen
 use Rattle.recording.specs.declared.pieces.Step.{Step}
 
 -- between two fields

@@ -3,7 +3,6 @@ use Rattle.std.specs.Prelude.{ℕ, ◌≡◌, Bool, true, false, List, [], ◌�
 use Rattle.recording.specs.File.{Raw, Finding}
 use Rattle.recording.specs.Write.{field_bytes, start_bytes}
 use Rattle.recording.specs.declared.field.Found.{Found}
-use Rattle.recording.specs.declared.field.Found.TheVariants as Found
 
 -- the answer in a finding, 0 where there is none
 abbrev pub answer_in : Found → ℕ

@@ -7,7 +7,6 @@ use Rattle.codec.specs.declared.time.Time.{Time}
 use Rattle.reader.specs.Frame.{judge_of}
 use Rattle.reader.specs.Answer.{judged_number}
 use Rattle.recording.specs.declared.write.Written.{Written}
-use Rattle.recording.specs.declared.write.Written.TheVariants as Written
 
 -- tag, length, body
 unfoldable pub field_bytes : ℕ → List ℕ → List ℕ

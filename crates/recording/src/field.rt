@@ -7,7 +7,7 @@ use codec::time::Time;
 use reader::Judged;
 
 // What a complete field is found to be. A skipped one has a tag that is not ours.
-#[derive(Drop)]
+#[derive(Clone, Copy)]
 pub enum Found {
     Frame(Header),
     Note,

@@ -8,7 +8,7 @@ use crate::field::{Field, Found};
 
 // Where reading stands: how many bytes of the field under way were read, tag and length among them; those
 // three bytes, as far as they were read; and how many fields were skipped so far.
-#[derive(Drop)]
+#[derive(Clone, Copy)]
 pub struct Place {
     pub past: usize,
     pub tag: u8,

@@ -12,7 +12,6 @@ use Rattle.codec.specs.declared.time.Time.{Time}
 use Rattle.codec.proofs.Opened.{never}
 use Rattle.tape.specs.Sample.{apart_of, sample_of, Plays, SameOrNext, begins_of, within_day, placed_of, position_of}
 use Rattle.tape.specs.declared.sample.Placed.{Placed}
-use Rattle.tape.specs.declared.sample.Placed.TheVariants as Placed
 use Rattle.tape.proofs.SampleLaws.{sample_after, sample_before, plays, the_one, begins}
 
 -- a difference, at each sign

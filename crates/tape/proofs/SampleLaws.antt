@@ -40,8 +40,8 @@ as_signed n h = to_z_pos w64 h
 
 -- within 24 hours its number fits 64 bits
 pub stored : (d : ℤ) → nat_abs d ≤ 86400000000000 → to_z w64 (of_z w64 (sample_of d)) ≡ sample_of d
-stored (pos a) h = to_z-of_z (rw (sample_after a) (record { sfits = omega arith }))
-stored (negsuc a) h = to_z-of_z (rw (sample_before a) (record { sfits = omega arith }))
+stored (pos a) h = to_z-of_z {w = w64} (rw (sample_after a) (record { sfits = omega arith }))
+stored (negsuc a) h = to_z-of_z {w = w64} (rw (sample_before a) (record { sfits = omega arith }))
 
 -- the orders of two numbers of one sign, from those of their sizes
 le_after : {a b : ℕ} → a ≤ b → pos a ≤ℤ pos b

@@ -1,13 +1,11 @@
 -- Which start is in force: the latest good one before a field. Assumes nothing.
 use mathlib.Core.Path.{◌≡◌, refl, ◌∙◌, ap}
-use mathlib.Core.Bool.{true, false, true≢false}
+use mathlib.Core.Bool.{false, true≢false}
 use mathlib.Core.List.{List, [], ◌∷◌, ◌++◌}
 use Rattle.codec.specs.declared.time.Time.{Time}
 use Rattle.recording.specs.File.{Finding}
 use Rattle.recording.specs.declared.field.Found.{Found}
-use Rattle.recording.specs.declared.field.Found.TheVariants as Found
 use Rattle.tape.specs.declared.microphone.Microphone.{Microphone}
-use Rattle.tape.specs.declared.microphone.Microphone.TheVariants as Microphone
 use Rattle.tape.specs.Start.{after_of, after_all, starts, NoStart}
 
 -- nothing but a good start changes it

@@ -7,7 +7,6 @@ use Rattle.codec.specs.Choice.{pick}
 use Rattle.codec.specs.Time.{ns}
 use Rattle.codec.specs.declared.time.Time.{Time}
 use Rattle.tape.specs.declared.sample.Placed.{Placed}
-use Rattle.tape.specs.declared.sample.Placed.TheVariants as Placed
 
 -- a number divided, rounded towards minus infinity (shr_z takes a to a / n and -(a + 1) to -(a / n + 1)), and up
 abbrev pub down_by : ℕ → ℤ → ℤ

@@ -2,9 +2,7 @@
 use Rattle.std.specs.Prelude.{◌≡◌, Bool, true, false, List, [], ◌∷◌}
 use Rattle.recording.specs.File.{Finding}
 use Rattle.recording.specs.declared.field.Found.{Found}
-use Rattle.recording.specs.declared.field.Found.TheVariants as Found
 use Rattle.tape.specs.declared.microphone.Microphone.{Microphone}
-use Rattle.tape.specs.declared.microphone.Microphone.TheVariants as Microphone
 
 -- after a field: a good start takes the place of the earlier one, and nothing else does
 abbrev pub after_of : Microphone → Found → Microphone

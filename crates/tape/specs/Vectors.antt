@@ -3,7 +3,6 @@ use Rattle.std.specs.Prelude.{ℕ, List, [], ◌∷◌, map, pos, negsuc}
 use Rattle.codec.specs.declared.time.Time.{Time}
 use Rattle.tape.specs.Sample.{position_of}
 use Rattle.tape.specs.declared.sample.Placed.{Placed}
-use Rattle.tape.specs.declared.sample.Placed.TheVariants as Placed
 
 pub record Row : Type 0 where
   pub start : Time

@@ -15,7 +15,6 @@ use Rattle.codec.specs.Number.{over}
 use Rattle.text.specs.Line.{same_of}
 use Rattle.text.specs.Bytes.{pairs, spells, Filled}
 use Rattle.text.specs.declared.bytes.Bytes.{Bytes}
-use Rattle.text.specs.declared.bytes.Bytes.TheVariants as Bytes
 
 -- the first i are digits
 pub record Judging (s : List ℕ) (i : ℕ) : Type 0 where

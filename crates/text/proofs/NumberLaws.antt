@@ -14,7 +14,6 @@ use Rattle.codec.proofs.BoolLaws.{and_false}
 use Rattle.text.specs.Digit.{digit_of, all_below}
 use Rattle.text.specs.Number.{value, grown_of, rest_of, digits_of, hexed, number_of}
 use Rattle.text.specs.declared.number.Number.{Number}
-use Rattle.text.specs.declared.number.Number.TheVariants as Number
 
 -- grown: the limit asked of v is the limit on the grown number
 pub grown_digit : (base most v d : ℕ) → most < d → Number.Bad ≡ grown_of base most v d

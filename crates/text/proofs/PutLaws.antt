@@ -14,7 +14,6 @@ use borrow.Author.Tests.{lt-ltb, le-ltb}
 use Rattle.codec.specs.Number.{over, Wrote}
 use Rattle.text.specs.Put.{letter_of, hexes, hex_of, decimals, decimal_of, Ends}
 use Rattle.codec.specs.declared.number.Put.{Put}
-use Rattle.codec.specs.declared.number.Put.TheVariants as Put
 
 -- hex: the digits of the first i of src stand at index at, up to index k
 pub record Hexing (l : List ℕ) (at : ℕ) (src out : List ℕ) (i k : ℕ) : Type 0 where

@@ -15,7 +15,6 @@ use Rattle.text.specs.Put.{letter_of, hexes, hex_of, decimals, decimal_of}
 use Rattle.text.specs.Line.{same_of}
 use Rattle.text.specs.Bytes.{pairs, spells}
 use Rattle.text.specs.declared.number.Number.{Number}
-use Rattle.text.specs.declared.number.Number.TheVariants as Number
 use Rattle.codec.proofs.BoolLaws.{and_false, and_l, and_r}
 use Rattle.text.proofs.DigitLaws.{from_0, from_a, after_f}
 use Rattle.text.proofs.PutLaws.{hexes-length}

@@ -9,7 +9,6 @@ use lib.ListN.{length, take, drop, length-append}
 use lib.Seq.{take_at}
 use Rattle.codec.specs.Number.{over, Wrote}
 use Rattle.codec.specs.declared.number.Put.{Put}
-use Rattle.codec.specs.declared.number.Put.TheVariants as Put
 use Rattle.codec.proofs.NumberLaws.{hit, kept, chain, chain_put, from_laid, laid_none, length_over}
 use Rattle.codec.proofs.Opened.{never}
 use Rattle.text.specs.Short.{Short}

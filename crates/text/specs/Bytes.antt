@@ -5,7 +5,6 @@ use Rattle.text.specs.Digit.{digit_of, all_below}
 use Rattle.codec.specs.Number.{over}
 use Rattle.text.specs.Line.{same_of}
 use Rattle.text.specs.declared.bytes.Bytes.{Bytes}
-use Rattle.text.specs.declared.bytes.Bytes.TheVariants as Bytes
 
 -- a byte for each two digits; '-' is one character and so none
 abbrev pub pairs : List ℕ → List ℕ

@@ -3,7 +3,6 @@ use Rattle.std.specs.Prelude.{ℕ, ◌+◌, ◌*◌, Bool, ◌&&◌, List, [], �
 use Rattle.codec.specs.Choice.{pick}
 use Rattle.text.specs.Digit.{digit_of, all_below}
 use Rattle.text.specs.declared.number.Number.{Number}
-use Rattle.text.specs.declared.number.Number.TheVariants as Number
 
 -- the number that digits are, the highest first, after digits that are worth a
 abbrev pub value : ℕ → ℕ → List ℕ → ℕ
