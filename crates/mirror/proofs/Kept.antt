@@ -33,7 +33,6 @@ use Rattle.mirror.specs.Tick.{tick_source, states_of, ticked, tick_of}
 use Rattle.mirror.specs.Take.{taken_of}
 use Rattle.mirror.specs.Failed.{failed_of}
 use Rattle.mirror.specs.Call.{Call, step_of, run_of}
-use Rattle.mirror.specs.Call as Call
 use Rattle.mirror.specs.declared.engine.Engine.{Engine}
 use Rattle.mirror.specs.declared.engine.Outcome.{Outcome}
 use Rattle.mirror.proofs.MirrorLaws.{few, few_pairs}

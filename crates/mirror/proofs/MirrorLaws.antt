@@ -2,7 +2,7 @@
 use Prim.Native.Nat.{ℕ, suc, ◌+◌, ◌-◌, ◌/◌, ◌≤◌, ◌<◌}
 use mathlib.Core.Path.{◌≡◌, refl, ap, ◌∙◌}
 use mathlib.Core.Bool.{Bool, true, false, not, ◌&&◌}
-use mathlib.Core.List.{List, [], ◌∷◌, ◌++◌, map, map_append, append_assoc, append-nil}
+use mathlib.Core.List.{List, [], ◌∷◌, ◌++◌, map, map-append, append_assoc, append-nil}
 use native.Mathlib.Omega.{arith}
 use native.Mathlib.Numerals.{add-one}
 use lib.ListN.{length, get_or, set, take, drop, length-map, drop_of_length-le}
@@ -206,7 +206,7 @@ pub map_step : (f : Source → Source) (l m : List Source) (k : ℕ) (d x : Sour
 map_step f l m k d x g j ex em =
     let h : k < length l = omega arith in
     let p : length (map f (take k l)) ≡ k = length-map (take k l) f ∙ length-take-le k l (omega arith) in
-    rw (em, ex, add-one k, take-suc l k d h, map_append f (take k l) (get_or l k d ∷ []), drop-cons l k d h)
+    rw (em, ex, add-one k, take-suc l k d h, map-append f (take k l) (get_or l k d ∷ []), drop-cons l k d h)
     (set_at (map f (take k l)) (get_or l k d) (drop (suc k) l) (f (get_or l k d)) k p ∙ rw append_assoc)
 
 pub map_end : (f : Source → Source) (l m : List Source) (k : ℕ) → length l ≡ 8 → 8 ≤ k → m ≡ map f (take k l) ++ drop k l → m ≡ map f l

@@ -37,7 +37,6 @@ use Rattle.mirror.specs.Tick.{tick_of}
 use Rattle.mirror.specs.Take.{taken_of, output_of}
 use Rattle.mirror.specs.Failed.{failed_of}
 use Rattle.mirror.specs.Call.{Call, Step, step_of}
-use Rattle.mirror.specs.Call as Call
 use Rattle.mirror.specs.declared.engine.Engine.{Engine}
 use Rattle.mirror.specs.declared.engine.Outcome.{Outcome}
 use Rattle.mirror.specs.declared.source.Added.{Added}

@@ -2,7 +2,7 @@
 -- ledger's takes do.
 use mathlib.Core.Path.{◌≡◌, refl, sym, ◌∙◌, ap}
 use mathlib.Core.Bool.{Bool, true, false}
-use mathlib.Core.List.{List, [], ◌∷◌, ◌++◌, map, map_append, append-nil}
+use mathlib.Core.List.{List, [], ◌∷◌, ◌++◌, map, map-append, append-nil}
 use native.Mathlib.Omega.{arith}
 use lib.ListN.{take}
 use lib.Dec.{eqb}
@@ -111,7 +111,7 @@ ran c e l (x ∷ xs) s p t =
       framer = rw (o, run_append e.framer a b, ← n.framer) r.framer;
       fit = rw o (all_append (FitOp c) a b n.fit r.fit);
       steady = r.steady;
-      out = rw (o, got_append c l a b, map_append laid (got_on c l a) (got_on c (run_l c l a) b), n.out, r.out);
+      out = rw (o, got_append c l a b, map-append laid (got_on c l a) (got_on c (run_l c l a) b), n.out, r.out);
       answers = (λ z. let y = not_broken e x s.sound in omega (arith, z), r.answers);
     }
 

@@ -2,7 +2,7 @@
 use Prim.Native.Nat.{ℕ, ◌+◌, ◌-◌, ◌/◌, ◌≤◌}
 use mathlib.Core.Path.{◌≡◌, sym, ◌∙◌, ap}
 use mathlib.Core.Bool.{true, false}
-use mathlib.Core.List.{List, [], ◌∷◌, ◌++◌, map, map_append}
+use mathlib.Core.List.{List, [], ◌∷◌, ◌++◌, map, map-append}
 use native.Mathlib.Omega.{arith}
 use lib.ListN.{length, take, replicate}
 use lib.Dec.{eqb}
@@ -41,7 +41,7 @@ more_laid : (n : ℕ) (t : Time) (xs : List Line) (x : Line) → item_ok (item_i
     → laid_out (pad (layout n t (map entry_in xs))) (14 + total xs) (item_in x) x.event.payload (total xs + size_in x) ≡ pad (layout n t (map entry_in (xs ++ (x ∷ []))))
 unfolding size_in
 more_laid n t xs x ok h =
-    rw (map_append entry_in xs (x ∷ []), ← total_body xs)
+    rw (map-append entry_in xs (x ∷ []), ← total_body xs)
     (laid_more n t (map entry_in xs) (entry_in x) ok (omega (arith, total_body xs)))
 
 -- the bytes that the framer makes, in the terms of what it begins with, where and what it writes

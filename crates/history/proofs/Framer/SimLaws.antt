@@ -2,7 +2,7 @@
 use Prim.Native.Nat.{ℕ, ◌+◌, ◌%◌, ◌≤◌, ◌<◌}
 use mathlib.Core.Path.{◌≡◌, refl, sym, ◌∙◌, ap}
 use mathlib.Core.Bool.{Bool, true, false, not, ◌&&◌, true≢false}
-use mathlib.Core.List.{List, [], ◌∷◌, map, map_append, append-nil}
+use mathlib.Core.List.{List, [], ◌∷◌, map, map-append, append-nil}
 use native.Mathlib.Omega.{arith}
 use native.Mathlib.Numerals.{add-one}
 use lib.ListN.{length, take, drop, length-replicate}
@@ -60,7 +60,7 @@ module _ (c : Limits) (w : Framer) (l : Ledger) (t : Tie c w l) (s : SoundL c l)
       let a : ℕ = (length l.sends + length (waiting_in l)) % 8 in
       let p = push w.queue a (laid l.filling) t.store (omega arith) g (length l.sends) (length (waiting_in l)) refl (omega arith) in
       rw (queue_is, q) (
-        rw (close_waits c l s, close_waiting c l s, q, add-one (length (waiting_in l))) (p ∙ rw t.slots (sym (map_append laid (waiting_in l) (l.filling ∷ [])))),
+        rw (close_waits c l s, close_waiting c l s, q, add-one (length (waiting_in l))) (p ∙ rw t.slots (sym (map-append laid (waiting_in l) (l.filling ∷ [])))),
         put_store w.queue a (laid l.filling) t.store (omega arith) g,
       )
   close_slots false q = rw (queue_is, q) (rw (close_waiting c l s, q, append-nil) t.slots, t.store)

@@ -3,7 +3,7 @@ use Prim.Native.Nat.{ℕ, ◌+◌, ◌*◌, ◌≤◌, ◌<◌}
 use mathlib.Core.Path.{◌≡◌, refl, sym, ◌∙◌, ap}
 use mathlib.Core.Logic.{◌⊎◌, inl, inr}
 use mathlib.Core.Bool.{Bool, true, false, not, true≢false}
-use mathlib.Core.List.{List, [], ◌∷◌, ◌++◌, map, map_append, append_assoc, append-nil}
+use mathlib.Core.List.{List, [], ◌∷◌, ◌++◌, map, map-append, append_assoc, append-nil}
 use native.Mathlib.Omega.{arith}
 use native.Mathlib.Numerals.{add-one}
 use lib.ListN.{length, drop, length-append, length-drop}
@@ -175,7 +175,7 @@ unfolding lines_in close enter line_for
 items_moves c = record {
   close = λ l h e p. simp (lines_append, append-nil) p;
   begin = λ l h ev x e p. rw e at p;
-  enter = λ l h ev x r p. rw (← p) (simp (map_append, append_assoc));
+  enter = λ l h ev x r p. rw (← p) (simp (map-append, append_assoc));
   take = λ l h f fs e p. p;
   fail = λ l h bs e p. p;
 }

@@ -3,7 +3,7 @@
 use Prim.Native.Nat.{ℕ, ◌+◌, ◌<◌}
 use mathlib.Core.Path.{◌≡◌, refl, sym, ◌∙◌, ap, subst}
 use mathlib.Core.Bool.{Bool, true, false, not, ◌||◌}
-use mathlib.Core.List.{List, [], ◌∷◌, ◌++◌, map_append, append_assoc, append-nil}
+use mathlib.Core.List.{List, [], ◌∷◌, ◌++◌, map-append, append_assoc, append-nil}
 use native.Mathlib.Omega.{arith}
 use borrow.Author.Tests.{le-leb, lt-leb}
 use Rattle.codec.specs.Choice.{pick, bit}
@@ -110,7 +110,7 @@ outline k = (k.frame.lines, k.kept)
 close-noted : (c : Limits) (l : Ledger) → Noted l → Noted (close c l)
 unfolding close
 close-noted c l p = record {
-  closed = closed_more [] l.notes _ ∙ rw (p.closed, p.filling, closed_one l.filling.lines (has_room c l)) (sym (map_append outline l.closed _));
+  closed = closed_more [] l.notes _ ∙ rw (p.closed, p.filling, closed_one l.filling.lines (has_room c l)) (sym (map-append outline l.closed _));
   filling = filling_more [] l.notes _ ∙ filling_none _ (has_room c l);
   lines = made_more l.notes _ ∙ go-lines (has_room c l) ∙ p.lines ∙ sym (close_lines c l);
   discards = tally_more is_discard l.notes _ ∙ rw (p.discards, go-discards (has_room c l)) (sym (close_discards c l));

@@ -2,7 +2,7 @@
 use Prim.Native.Nat.{ℕ, suc, ◌+◌, ◌/◌, ◌%◌, ◌≤◌}
 use mathlib.Core.Path.{◌≡◌, refl, sym, ap, ◌∙◌}
 use mathlib.Core.Bool.{true, not, ◌&&◌}
-use mathlib.Core.List.{List, [], ◌∷◌, ◌++◌, map, map_append, append-nil}
+use mathlib.Core.List.{List, [], ◌∷◌, ◌++◌, map, map-append, append-nil}
 use native.Mathlib.Omega.{arith}
 use lib.ListN.{length, take, set, length-set}
 use lib.Seq.{take-suc-set, append_snoc}
@@ -62,7 +62,7 @@ named_book k (kind ∷ (id ∷ rest)) ss e h =
     let m : k + suc (suc (length rest)) / 2 ≡ suc k + length rest / 2 = omega arith in
     let ih = named_book (suc k) rest (set ss k y) a.2 (rw (length-set ss k y) (omega arith)) in
     rw m (ih
-    ∙ rw (take-suc-set ss k y (omega arith), map_append account_of (take k ss) (y ∷ []), numbered_account kind id a.0)
+    ∙ rw (take-suc-set ss k y (omega arith), map-append account_of (take k ss) (y ∷ []), numbered_account kind id a.0)
     (append_snoc (map account_of (take k ss)) (fresh_account (kind_named kind) id) (accounts_for rest)))
 
 -- the sources before setup

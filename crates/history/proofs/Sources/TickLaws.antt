@@ -2,7 +2,7 @@
 use Prim.Native.Nat.{ℕ, zero, suc, ◌+◌, ◌≤◌, ◌<◌}
 use mathlib.Core.Path.{◌≡◌, refl, sym, ap, ◌∙◌}
 use mathlib.Core.Bool.{Bool, true, false}
-use mathlib.Core.List.{List, [], ◌∷◌, ◌++◌, map, map_append}
+use mathlib.Core.List.{List, [], ◌∷◌, ◌++◌, map, map-append}
 use native.Mathlib.Omega.{arith}
 use lib.ListN.{length, take, drop, get_or, length-set, length-map, take-append-drop}
 use lib.Seq.{length-take-le, take_at, take-suc-set, drop-cons, drop-set-lt, append_snoc}
@@ -86,7 +86,7 @@ module _ (t : Time) where
       let g : k < length e.sources = omega arith in
       let rest : List Event = state_events t (map account_of (take n (drop (suc k) e.sources))) in
       states_framer n (suc k) (tick_source e k t) (rw (tick_length e k) (omega arith))
-      ∙ rw (tick_framer e k, tick_rest e k, drop-cons e.sources k no_source g, map_append Rules.event (shownBy x) rest)
+      ∙ rw (tick_framer e k, tick_rest e k, drop-cons e.sources k no_source g, map-append Rules.event (shownBy x) rest)
       (sym (run_append e.framer (map Rules.event (shownBy x)) (map Rules.event rest)))
 
   pub states_fit : (c : Limits) (book : List Account) → All HealthyA book → time_ok t ≡ true → 32 ≤ c.size → All (FitOp c) (map Rules.event (state_events t book))
