@@ -10,7 +10,6 @@ use Rattle.recording.specs.Trip.{good}
 use Rattle.recording.specs.Pieces.{fresh, sound_of}
 use Rattle.recording.specs.Calls.{on_pieces, join}
 use Rattle.recording.specs.declared.field.Found.{Found}
-use Rattle.recording.specs.declared.field.Found.TheVariants as Found
 use Rattle.recording.specs.declared.pieces.Place.{Place}
 use Rattle.recording.proofs.PlaceLaws.{sound_same}
 use Rattle.recording.proofs.HeldLaws.{Holds, holds_none}

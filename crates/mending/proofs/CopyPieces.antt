@@ -15,7 +15,6 @@ use Rattle.recording.specs.Pieces.{fresh, sound_of, next_of, kept_of}
 use Rattle.recording.specs.Calls.{noted, join}
 use Rattle.recording.specs.declared.pieces.Place.{Place}
 use Rattle.recording.specs.declared.pieces.Seen.{Seen}
-use Rattle.recording.specs.declared.pieces.Seen.TheVariants as Seen
 use Rattle.recording.proofs.PlaceLaws.{sound_same, used_is, uses_most}
 use Rattle.recording.proofs.FileLaws.{there, body-length, left_more, left_end, left_append}
 use Rattle.recording.proofs.HeldLaws.{Holds, holds_none, held_cut, take-over, went, ended}

@@ -8,7 +8,6 @@ use lib.Dec.{eqb}
 use Rattle.codec.specs.Choice.{pick}
 use Rattle.text.proofs.PutLaws.{decimal_length}
 use Rattle.recording.specs.declared.field.Found.{Found}
-use Rattle.recording.specs.declared.field.Found.TheVariants as Found
 use Rattle.mending.specs.Check.{number_text, two_text, pair_line, triple_line, found_line, rest_text, fields_line}
 use Rattle.mending.specs.declared.check.Tally.{Tally}
 

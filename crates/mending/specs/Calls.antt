@@ -8,7 +8,6 @@ use Rattle.recording.specs.Calls.{Ran, on_pieces}
 use Rattle.recording.specs.declared.field.Field.{Field}
 use Rattle.recording.specs.declared.pieces.Place.{Place}
 use Rattle.recording.specs.declared.pieces.Seen.{Seen}
-use Rattle.recording.specs.declared.pieces.Seen.TheVariants as Seen
 use Rattle.mending.specs.Copy.{stays}
 use Rattle.mending.specs.Check.{tallied, report_of}
 use Rattle.mending.specs.declared.check.Tally.{Tally}

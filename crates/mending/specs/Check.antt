@@ -5,7 +5,6 @@ use Rattle.text.specs.Put.{decimal_of}
 use Rattle.recording.specs.File.{Finding, left_of, findings_of, skips}
 use Rattle.recording.specs.Trip.{good}
 use Rattle.recording.specs.declared.field.Found.{Found}
-use Rattle.recording.specs.declared.field.Found.TheVariants as Found
 use Rattle.mending.specs.Copy.{stays}
 use Rattle.mending.specs.declared.check.Tally.{Tally}
 

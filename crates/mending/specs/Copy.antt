@@ -3,7 +3,6 @@ use Rattle.std.specs.Prelude.{ℕ, ◌+◌, ◌≡◌, Bool, true, false, List, 
 use Rattle.codec.specs.Choice.{pick}
 use Rattle.recording.specs.File.{Raw, Finding, fields_of, finding_of}
 use Rattle.recording.specs.declared.field.Found.{Found}
-use Rattle.recording.specs.declared.field.Found.TheVariants as Found
 
 -- a field that the copy keeps: a good one, or one whose tag is not ours
 abbrev pub stays : Found → Bool

@@ -35,7 +35,6 @@ fn number(out: &mut [u8], at: usize, v: u64) -> usize
     digits(out, start, v)
 }
 
-#[tactic(auto, unfolding(crate::specs::Check::two_text))]
 fn two(out: &mut [u8], name: &[u8], a: u64, b: u64) -> usize
     requires name_len_bound { length name.now ≤ 8 }
     requires in_bounds { 128 ≤ length out.old }

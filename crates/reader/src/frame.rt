@@ -6,7 +6,7 @@ use codec::field::ItemRead;
 use codec::header::{Header, HeaderRead};
 use codec::refusal::Refusal;
 
-#[derive(Drop)]
+#[derive(Clone, Copy)]
 pub enum Judged {
     Frame(Header),
     Refused(Refusal),

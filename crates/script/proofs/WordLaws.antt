@@ -12,7 +12,6 @@ use Rattle.codec.proofs.Opened.{chosen, passed, never}
 use Rattle.text.specs.Digit.{all_below}
 use Rattle.text.specs.Number.{number_of, digits_of, rest_of, hexed, value}
 use Rattle.text.specs.declared.number.Number.{Number}
-use Rattle.text.specs.declared.number.Number.TheVariants as Number
 
 rest_most : (base most : ℕ) (cs : List ℕ) (n : ℕ) → rest_of base most 0 cs ≡ Number.Is n → n ≤ most
 unfolding rest_of

@@ -5,15 +5,12 @@ use Rattle.codec.specs.Refusal.{number_of}
 use Rattle.codec.specs.Ident.{network_type, kind_of}
 use Rattle.codec.specs.declared.time.Time.{Time}
 use Rattle.codec.specs.declared.ident.Ident.{Ident}
-use Rattle.codec.specs.declared.ident.Ident.TheVariants as Ident
 use Rattle.codec.specs.declared.item.State.{State}
-use Rattle.codec.specs.declared.item.State.TheVariants as State
 use Rattle.codec.specs.declared.item.Item.{Item}
 use Rattle.text.specs.Put.{decimal_of, hex_of}
 use Rattle.reader.specs.Answer.{judged_number, judged_header}
 use Rattle.reader.specs.declared.frame.Judged.{Judged}
 use Rattle.reader.specs.declared.place.Stepped.{Stepped}
-use Rattle.reader.specs.declared.place.Stepped.TheVariants as Stepped
 
 -- a space (32) and a number
 unfoldable pub field_text : ℕ → List ℕ

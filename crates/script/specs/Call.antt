@@ -5,7 +5,6 @@ use Rattle.text.specs.Line.{words_of, word_of, same_of}
 use Rattle.text.specs.Number.{number_of}
 use Rattle.script.specs.Word.{open_number, open_narrow, open_flag, open_stamp, open_shape, open_bounds, wide_at, narrow_at, flag_at, stamp_at, shape_at, bounds_at}
 use Rattle.script.specs.declared.call.Call.{Call}
-use Rattle.script.specs.declared.call.Call.TheVariants as Call
 
 -- new, offline, failed, discards, failures
 unfoldable pub one_word_of : List ℕ → Call

@@ -5,7 +5,6 @@ use Rattle.codec.specs.Choice.{pick}
 use Rattle.text.specs.Line.{ahead}
 use Rattle.script.specs.Word.{narrow_of, open_narrow}
 use Rattle.script.specs.declared.pairs.Pairs.{Pairs}
-use Rattle.script.specs.declared.pairs.Pairs.TheVariants as Pairs
 
 -- what stands after the first space
 unfoldable pub past_of : List ℕ → List ℕ

@@ -4,7 +4,6 @@ use Rattle.codec.specs.Choice.{pick}
 use Rattle.text.specs.Line.{words_of, word_of, same_of}
 use Rattle.script.specs.Word.{open_number, open_narrow, wide_at, narrow_at}
 use Rattle.script.specs.declared.tape.Tape.{Tape}
-use Rattle.script.specs.declared.tape.Tape.TheVariants as Tape
 
 -- a line that begins with "note ", whatever follows
 unfoldable pub is_note : List ℕ → Bool

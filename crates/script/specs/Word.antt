@@ -4,17 +4,11 @@ use Rattle.codec.specs.declared.time.Time.{Time}
 use Rattle.text.specs.Line.{word_of}
 use Rattle.text.specs.Number.{number_of}
 use Rattle.text.specs.declared.number.Number.{Number}
-use Rattle.text.specs.declared.number.Number.TheVariants as Number
 use Rattle.script.specs.declared.word.Narrow.{Narrow}
-use Rattle.script.specs.declared.word.Narrow.TheVariants as Narrow
 use Rattle.script.specs.declared.word.Flag.{Flag}
-use Rattle.script.specs.declared.word.Flag.TheVariants as Flag
 use Rattle.script.specs.declared.word.Stamp.{Stamp}
-use Rattle.script.specs.declared.word.Stamp.TheVariants as Stamp
 use Rattle.script.specs.declared.word.Shape.{Shape}
-use Rattle.script.specs.declared.word.Shape.TheVariants as Shape
 use Rattle.script.specs.declared.word.Bounds.{Bounds}
-use Rattle.script.specs.declared.word.Bounds.TheVariants as Bounds
 
 -- an answer opened: what to answer where it is bad, and what to do with what was read
 abbrev pub open_number : {A : Type 0} → Number → A → (ℕ → A) → A
