@@ -3,9 +3,7 @@ use Rattle.std.specs.Prelude.{ℕ, ◌+◌, ◌*◌, ◌/◌, ◌%◌, Bool, tru
 use Rattle.codec.specs.Choice.{pick}
 use Rattle.codec.specs.declared.time.Time.{Time}
 use Rattle.codec.specs.declared.ident.Kind.{Kind}
-use Rattle.codec.specs.declared.ident.Kind.TheVariants as Kind
 use Rattle.codec.specs.declared.ident.Ident.{Ident}
-use Rattle.codec.specs.declared.ident.Ident.TheVariants as Ident
 use Rattle.history.specs.Meaning.{Bound, none, errors, conflict, aggregated, Meaning, starts, stops, updates, reports, ticks, takes, fails, switches, drops, nothing}
 
 -- something to be mirrored: an accepted report, or a state item that a tick calls for. `state` is the source's state byte

@@ -6,7 +6,6 @@ use Rattle.mirror.specs.declared.engine.Engine.{Engine}
 use Rattle.history.specs.Meaning.{Meaning, starts, stops, updates, reports, ticks, takes, fails, switches, drops, nothing, meaning}
 use Rattle.history.specs.Account.{Account, Event, events_of, accounts_of}
 use Rattle.history.specs.Ledger.{Limits, Ledger, empty_ledger, Op, run_l}
-use Rattle.history.specs.Ledger as Op
 
 pub record Deed : Type 0 where
   pub call : Call

@@ -5,7 +5,6 @@ use Rattle.codec.specs.Choice.{pick}
 use Rattle.codec.specs.Number.{Bytes}
 use Rattle.codec.specs.Time.{ns}
 use Rattle.codec.specs.declared.ident.Ident.{Ident}
-use Rattle.codec.specs.declared.ident.Ident.TheVariants as Ident
 use Rattle.reader.specs.declared.frame.Judged.TheVariants as Judged
 use Rattle.reader.specs.Frame.{judge_of, items_of}
 use Rattle.reader.specs.Listing.{Yield, stepping}
@@ -13,12 +12,10 @@ use Rattle.framer.specs.declared.queue.Queue.{Queue}
 use Rattle.framer.specs.Queue.{frame_at}
 use Rattle.mirror.specs.Engine.{discards_of, failures_of}
 use Rattle.mirror.specs.Call.{Call, Said, Step, step_of, run_of}
-use Rattle.mirror.specs.Call as Call
 use Rattle.mirror.specs.declared.engine.Engine.{Engine}
 use Rattle.history.specs.Meaning.{Meaning, starts, stops, updates, reports, ticks, takes, fails, switches, drops, nothing, meaning}
 use Rattle.history.specs.Account.{Account, Event}
 use Rattle.history.specs.Ledger.{Limits, Line, Frame, Closed, Ledger, empty_ledger, Op, step_l, run_l, item_in, entry_in, size_in, total, discard_count, taken_in, waiting_in, failures_in, failure_count, unmarked, offset_in, line_for, is_out, lines_in, filling_in}
-use Rattle.history.specs.Ledger as Op
 use Rattle.history.specs.Deed.{Deed, deeds_of, done, events_on, ops_on, ledger_of}
 use Rattle.history.specs.Clock.{tells_by, says_by}
 use Rattle.history.specs.Loss.{Marks, Noted, failed_on}

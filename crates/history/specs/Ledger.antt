@@ -7,7 +7,6 @@ use Rattle.codec.specs.Item.{item_length}
 use Rattle.codec.specs.Layout.{Entry}
 use Rattle.codec.specs.declared.time.Time.{Time}
 use Rattle.codec.specs.declared.item.State.{State}
-use Rattle.codec.specs.declared.item.State.TheVariants as State
 use Rattle.codec.specs.declared.item.Item.{Item}
 use Rattle.history.specs.Account.{Event}
 

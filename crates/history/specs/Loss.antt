@@ -3,7 +3,6 @@
 use Rattle.std.specs.Prelude.{ℕ, ◌+◌, ◌≡◌, Bool, true, false, List, [], ◌∷◌, map, length, leb}
 use Rattle.codec.specs.Choice.{pick}
 use Rattle.codec.specs.declared.item.State.{State}
-use Rattle.codec.specs.declared.item.State.TheVariants as State
 use Rattle.history.specs.Meaning.{Meaning, starts, stops, updates, reports, ticks, takes, fails, switches, drops, nothing, meaning}
 use Rattle.history.specs.Ledger.{Closed, Note, made, queued, discarded, unsent, Ledger, item_in, discarded_in, failures_in, lines_in, closed_by, filling_by, made_in, is_discard, is_failure, tally}
 use Rattle.history.specs.Deed.{Deed, done}

@@ -3,9 +3,7 @@ use Rattle.std.specs.Prelude.{ℕ, ◌+◌, ◌*◌, ◌/◌, min, Bool, true, f
 use Rattle.codec.specs.Choice.{pick, bit}
 use Rattle.codec.specs.declared.time.Time.{Time}
 use Rattle.codec.specs.declared.ident.Ident.{Ident}
-use Rattle.codec.specs.declared.ident.Ident.TheVariants as Ident
 use Rattle.mirror.specs.Call.{Call}
-use Rattle.mirror.specs.Call as Call
 
 -- the frame-bound bits that a report writes: none; LIN's four error bits; FlexRay's conflict bit; the three bits of a FlexRay error
 -- without a frame, which is aggregated over the channels (rule 4)

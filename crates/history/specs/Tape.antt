@@ -4,7 +4,6 @@ use Rattle.codec.specs.declared.time.Time.{Time}
 use Rattle.reader.specs.Listing.{Yield, stepping}
 use Rattle.tape.specs.Sample.{apart_of, sample_of, SameOrNext, position_of}
 use Rattle.tape.specs.declared.sample.Placed.{Placed}
-use Rattle.tape.specs.declared.sample.Placed.TheVariants as Placed
 use Rattle.history.specs.Ledger.{Line, Frame}
 use Rattle.history.specs.History.{Both}
 

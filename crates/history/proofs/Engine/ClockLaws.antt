@@ -15,7 +15,6 @@ use Rattle.mirror.specs.Engine.{timed}
 use Rattle.mirror.specs.Report.{report_of}
 use Rattle.mirror.specs.Tick.{tick_of}
 use Rattle.mirror.specs.Call.{Call, step_of, run_of}
-use Rattle.mirror.specs.Call as Call
 use Rattle.mirror.specs.declared.engine.Engine.{Engine}
 use Rattle.mirror.specs.declared.engine.Outcome.{Outcome}
 use Rattle.history.specs.Ledger.{Limits, Ledger}

@@ -11,7 +11,6 @@ use Rattle.codec.specs.Number.{Bytes}
 use Rattle.codec.specs.Time.{time_ok}
 use Rattle.codec.specs.declared.time.Time.{Time}
 use Rattle.codec.specs.declared.ident.Ident.{Ident}
-use Rattle.codec.specs.declared.ident.Ident.TheVariants as Ident
 use Rattle.codec.proofs.Opened as Opened
 use Rattle.framer.specs.Framer.{add, take_of}
 use Rattle.framer.specs.declared.framer.Framer.{Framer}
@@ -32,7 +31,6 @@ use Rattle.mirror.specs.Tick.{ticked, tick_of}
 use Rattle.mirror.specs.Take.{taken_of}
 use Rattle.mirror.specs.Failed.{failed_of}
 use Rattle.mirror.specs.Call.{Call, step_of}
-use Rattle.mirror.specs.Call as Call
 use Rattle.mirror.specs.declared.engine.Engine.{Engine}
 use Rattle.mirror.proofs.Kept.{metered, kept}
 use Rattle.mirror.proofs.Refused.{refused-keeps}

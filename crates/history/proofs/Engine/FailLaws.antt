@@ -11,7 +11,6 @@ use Rattle.codec.specs.declared.time.Time.{Time}
 use Rattle.mirror.specs.Engine.{sound_of, answered, cause_of}
 use Rattle.mirror.specs.Failed.{failed_of}
 use Rattle.mirror.specs.Call.{Call, step_of}
-use Rattle.mirror.specs.Call as Call
 use Rattle.mirror.specs.declared.engine.Engine.{Engine}
 use Rattle.history.specs.Meaning.{Meaning, starts, stops, updates, reports, ticks, takes, fails, switches, drops, nothing, meaning}
 use Rattle.history.specs.Account.{Account, Event, events_of}

@@ -9,7 +9,6 @@ use lib.Dec.{eqb}
 use borrow.Author.Tests.{eqb-true, eqb-false}
 use Rattle.codec.specs.Choice.{pick}
 use Rattle.mirror.specs.Call.{Call, step_of, run_of}
-use Rattle.mirror.specs.Call as Call
 use Rattle.mirror.specs.declared.engine.Engine.{Engine}
 use Rattle.mirror.proofs.Refused.{refused-keeps, not_broken}
 use Rattle.history.specs.Meaning.{meaning}

@@ -15,7 +15,6 @@ use Rattle.framer.specs.declared.framer.Framer.{Framer}
 use Rattle.mirror.specs.Engine.{sound_of}
 use Rattle.mirror.specs.Take.{taken_of, output_of}
 use Rattle.mirror.specs.Call.{Call, step_of}
-use Rattle.mirror.specs.Call as Call
 use Rattle.mirror.specs.declared.engine.Engine.{Engine}
 use Rattle.history.specs.Meaning.{takes}
 use Rattle.history.specs.Ledger.{Limits, Frame, Ledger, waiting_in}

@@ -1,9 +1,11 @@
 -- What a reader makes of a frame of the ledger.
-use Prim.Native.Nat.{ℕ, ◌≤◌}
+use Prim.Native.Nat.{ℕ, ◌+◌, ◌≤◌}
+use lib.ListN.{length}
 use mathlib.Core.Path.{refl, ◌∙◌}
 use mathlib.Core.List.{List, [], ◌∷◌, map}
 use native.Mathlib.Omega.{arith}
 use Rattle.codec.specs.declared.time.Time.{Time}
+use Rattle.codec.specs.Item.{encode}
 use Rattle.codec.proofs.TimeLaws.{recovered_exact}
 use Rattle.reader.specs.Listing.{listing}
 use Rattle.reader.proofs.Theorems.{layout_bytes, complete, steps_yield}
@@ -20,8 +22,10 @@ shows_all t at [] s n p = tt
 shows_all t at (x ∷ xs) s n p =
     let e = recovered_exact t x.offset s n p.0.offset in
     let a = p.0.never_after in
-    let b = p.0.near in
-    (record { item = refl; payload = refl; never_after = omega arith; near = omega arith }, shows_all t _ xs s n p.1)
+    let b = p.0.near in (
+      record { item = refl; payload = refl; never_after = omega arith; near = omega arith },
+      shows_all t (at + length (encode (entry_in x).item (entry_in x).payload)) xs s n p.1,
+    )
 
 pub reads_laid : (c : Limits) (f : Frame) → Good c f → Reads (laid f) f
 unfolding laid

@@ -1,5 +1,5 @@
 -- The events that reports and ticks give: each fits every frame.
-use Prim.Native.Nat.{ℕ, ◌+◌, ◌*◌, ◌/◌, ◌%◌, ◌^◌, ◌≤◌, ◌<◌}
+use Prim.Native.Nat.{ℕ, ◌+◌, ◌%◌, ◌^◌, ◌≤◌, ◌<◌}
 use mathlib.Core.Path.{◌≡◌, refl, sym, ap, ◌∙◌}
 use mathlib.Core.Bool.{Bool, true, false, ◌&&◌, ◌||◌}
 use mathlib.Core.List.{List}
@@ -15,7 +15,6 @@ use Rattle.codec.specs.Item.{shown_ok, set_of, set_for, load_ok, item_ok}
 use Rattle.codec.specs.Layout.{IdentFits}
 use Rattle.codec.specs.declared.time.Time.{Time}
 use Rattle.codec.specs.declared.ident.Ident.{Ident}
-use Rattle.codec.specs.declared.ident.Ident.TheVariants as Ident
 use Rattle.codec.specs.declared.item.State.TheVariants as State
 use Rattle.codec.proofs.BoolLaws.{and_l, and_r, or_true}
 use Rattle.codec.proofs.PidLaws.{pid_small}

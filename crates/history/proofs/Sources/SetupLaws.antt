@@ -20,7 +20,6 @@ use Rattle.bus.specs.declared.source.Source.{Source}
 use Rattle.mirror.specs.Engine.{no_sources}
 use Rattle.mirror.specs.Setup.{kind_numbered, source_numbered, pair_ok, named_again, pairs_ok, sources_ok, named, setup_of}
 use Rattle.mirror.specs.Call.{Call, step_of}
-use Rattle.mirror.specs.Call as Call
 use Rattle.mirror.specs.declared.engine.Engine.{Engine}
 use Rattle.mirror.proofs.Kept.{sound_by}
 use Rattle.history.specs.Account.{fresh_account, kind_named, accounts_for}

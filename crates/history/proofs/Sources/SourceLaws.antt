@@ -11,7 +11,6 @@ use Rattle.codec.specs.Ident.{network_type}
 use Rattle.codec.specs.Item.{shown_ok, lin_zero}
 use Rattle.codec.specs.declared.time.Time.{Time}
 use Rattle.codec.specs.declared.ident.Kind.{Kind}
-use Rattle.codec.specs.declared.ident.Kind.TheVariants as Kind
 use Rattle.codec.proofs.BoolLaws.{and_l, and_r}
 use Rattle.bus.specs.Filter.{same_kind}
 use Rattle.bus.specs.Source.{fresh_source, started_source, stopped_source, free_at, free_place, with_places, added_filter, removed_filter, due, tick_due, state_offer, calmed}

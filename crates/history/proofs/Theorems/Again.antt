@@ -16,7 +16,6 @@ use Rattle.framer.specs.declared.meter.Meter.{Meter}
 use Rattle.framer.proofs.FramerLaws.{sounds}
 use Rattle.mirror.specs.Setup.{reset_of, switch_of, offline_of}
 use Rattle.mirror.specs.Call.{Call, step_of, run_of}
-use Rattle.mirror.specs.Call as Call
 use Rattle.mirror.specs.declared.engine.Engine.{Engine}
 use Rattle.mirror.proofs.Refused.{refused-keeps}
 use Rattle.history.specs.Meaning.{Meaning, starts, stops, updates, reports, ticks, takes, fails, switches, drops, nothing, meaning}

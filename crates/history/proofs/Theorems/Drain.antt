@@ -11,7 +11,6 @@ use Rattle.framer.specs.Framer.{take_of}
 use Rattle.mirror.specs.Engine.{sound_of}
 use Rattle.mirror.specs.Take.{taken_of}
 use Rattle.mirror.specs.Call.{Call, step_of, run_of}
-use Rattle.mirror.specs.Call as Call
 use Rattle.mirror.specs.declared.engine.Engine.{Engine}
 use Rattle.history.specs.Meaning.{takes}
 use Rattle.history.specs.Account.{Account, accounts_for}

@@ -10,7 +10,6 @@ use Rattle.codec.specs.Header.{header_bytes}
 use Rattle.codec.specs.Item.{encode}
 use Rattle.codec.specs.Layout.{layout}
 use Rattle.mirror.specs.Call.{Call, Said}
-use Rattle.mirror.specs.Call as Call
 use Rattle.mirror.specs.Row.{Row}
 use Rattle.mirror.specs.Vectors.{p1, p2, p3, p4, p5, p6, p7, p8, p9}
 use Rattle.mirror.specs.LaterVectors.{p10, p11, p11-first, p11_fifth, p13}

@@ -1,18 +1,17 @@
 -- Between calls the frame-bound bits of every state byte are clear. So such a bit stands on the item of its own report and on no other.
 use Prim.Native.Nat.{ℕ, ◌+◌, ◌%◌}
-use mathlib.Core.Path.{◌≡◌, refl, sym, ◌∙◌, ap}
+use mathlib.Core.Path.{◌≡◌, refl, ◌∙◌, ap}
 use mathlib.Core.Bool.{true}
 use mathlib.Core.List.{List, [], ◌∷◌}
 use native.Mathlib.Omega.{arith}
 use borrow.Author.Tests.{eqb-true}
 use Rattle.codec.specs.declared.ident.Kind.{Kind}
-use Rattle.codec.specs.declared.ident.Kind.TheVariants as Kind
 use Rattle.mirror.specs.Call.{Call, step_of, run_of}
 use Rattle.mirror.specs.declared.engine.Engine.{Engine}
 use Rattle.history.specs.Meaning.{Bound, none, errors, conflict, aggregated}
 use Rattle.history.specs.Account.{Account, accounts_for, written}
 use Rattle.history.specs.Ledger.{Limits, Ledger, empty_ledger, run_l}
-use Rattle.history.specs.Deed.{Deed, deeds_of, accounts_by, ops_on}
+use Rattle.history.specs.Deed.{Deed, deeds_of, accounts_by}
 use Rattle.history.specs.History.{All, Plain, set_up}
 use Rattle.history.proofs.Ground.ListLaws.{all_map}
 use Rattle.history.proofs.Sources.SourceLaws.{bound_clear, HealthyA}
@@ -20,7 +19,7 @@ use Rattle.history.proofs.Sources.BookLaws.{book_of, Steady, healthy_book}
 use Rattle.history.proofs.Framer.SimLaws.{Tied, run_tied}
 use Rattle.history.proofs.Engine.EngineLaws.{step_steady}
 use Rattle.history.proofs.Engine.RunLaws.{ops_by, deed_of, stepped}
-use Rattle.history.proofs.Theorems.Theorem.{Begun, setup_begun, end_steady}
+use Rattle.history.proofs.Theorems.Theorem.{setup_begun, end_steady}
 
 -- the accounts that deeds leave
 abbrev pub accounts_on : List Account → List Deed → List Account

@@ -10,7 +10,6 @@ use Rattle.codec.specs.Choice.{pick}
 use Rattle.framer.specs.declared.meter.Meter.{Meter}
 use Rattle.mirror.specs.Engine.{sound_of, asked_of, discards_of, failures_of}
 use Rattle.mirror.specs.Call.{Call, step_of, run_of}
-use Rattle.mirror.specs.Call as Call
 use Rattle.mirror.specs.declared.engine.Engine.{Engine}
 use Rattle.history.specs.Account.{Account, accounts_for}
 use Rattle.history.specs.Ledger.{Limits, Ledger, Op, empty_ledger, is_empty, kept_in, discard_count, taken_in, waiting_in, failures_in, failure_count, is_out, filling_in, run_l}
