@@ -13,11 +13,9 @@ use Rattle.recording.specs.Pieces.{fresh, next_of, kept_of, ends_of, place_of, u
 use Rattle.recording.specs.Calls.{noted, on_piece, on_pieces, join}
 use Rattle.recording.specs.declared.pieces.Place.{Place}
 use Rattle.recording.specs.declared.pieces.Seen.{Seen}
-use Rattle.recording.specs.declared.pieces.Seen.TheVariants as Seen
 use Rattle.recording.proofs.InPieces.{in-pieces}
 use Rattle.tape.specs.Start.{after_of, after_all}
 use Rattle.tape.specs.declared.microphone.Microphone.{Microphone}
-use Rattle.tape.specs.declared.microphone.Microphone.TheVariants as Microphone
 use Rattle.listing.specs.Field.{found_lines}
 use Rattle.listed.specs.File.{lines_of, end_lines, listed_of, seen_lines, after_seen, piece_lines, pieces_lines, written_of}
 

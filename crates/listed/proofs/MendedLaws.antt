@@ -4,9 +4,7 @@ use mathlib.Core.Path.{◌≡◌, refl, ◌∙◌, ap}
 use mathlib.Core.List.{List, [], ◌∷◌, ◌++◌}
 use Rattle.recording.specs.File.{Finding, Listing, findings_of, listing_of}
 use Rattle.recording.specs.declared.field.Found.{Found}
-use Rattle.recording.specs.declared.field.Found.TheVariants as Found
 use Rattle.tape.specs.declared.microphone.Microphone.{Microphone}
-use Rattle.tape.specs.declared.microphone.Microphone.TheVariants as Microphone
 use Rattle.listing.specs.Line.{end_line}
 use Rattle.mending.specs.Copy.{copy_of, stayed}
 use Rattle.mending.proofs.CheckLaws.{list_of_copy}

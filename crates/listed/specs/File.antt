@@ -6,10 +6,8 @@ use Rattle.recording.specs.Pieces.{fresh, next_of, kept_of}
 use Rattle.recording.specs.Calls.{on_piece, on_pieces, told_of}
 use Rattle.recording.specs.declared.pieces.Place.{Place}
 use Rattle.recording.specs.declared.pieces.Seen.{Seen}
-use Rattle.recording.specs.declared.pieces.Seen.TheVariants as Seen
 use Rattle.tape.specs.Start.{after_of, after_all}
 use Rattle.tape.specs.declared.microphone.Microphone.{Microphone}
-use Rattle.tape.specs.declared.microphone.Microphone.TheVariants as Microphone
 use Rattle.listing.specs.Line.{end_line}
 use Rattle.listing.specs.Field.{found_lines, field_lines}
 

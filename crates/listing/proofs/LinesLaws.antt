@@ -13,10 +13,8 @@ use Rattle.codec.specs.Field.{read_item, bytes_at}
 use Rattle.codec.specs.declared.time.Time.{Time}
 use Rattle.codec.specs.declared.item.Item.{Item}
 use Rattle.codec.specs.declared.number.Put.{Put}
-use Rattle.codec.specs.declared.number.Put.TheVariants as Put
 use Rattle.codec.specs.declared.refusal.Refusal.{Refusal}
 use Rattle.codec.specs.declared.field.ItemRead.{ItemRead}
-use Rattle.codec.specs.declared.field.ItemRead.TheVariants as ItemRead
 use Rattle.reader.specs.Frame.{along, items_of}
 use Rattle.reader.proofs.AlongLaws.{items_item}
 use Rattle.tape.specs.declared.microphone.Microphone.{Microphone}

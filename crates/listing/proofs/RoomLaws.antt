@@ -18,24 +18,18 @@ use Rattle.codec.specs.Field.{read_item, bytes_at}
 use Rattle.codec.specs.declared.time.Time.{Time}
 use Rattle.codec.specs.declared.item.Item.{Item}
 use Rattle.codec.specs.declared.item.State.{State}
-use Rattle.codec.specs.declared.item.State.TheVariants as State
 use Rattle.codec.specs.declared.ident.Kind.{Kind}
-use Rattle.codec.specs.declared.ident.Kind.TheVariants as Kind
 use Rattle.codec.specs.declared.ident.Ident.{Ident}
-use Rattle.codec.specs.declared.ident.Ident.TheVariants as Ident
 use Rattle.codec.specs.declared.header.Header.{Header}
 use Rattle.codec.proofs.NumberLaws.{has_room_lem, over-over, length_over}
 use Rattle.codec.specs.declared.field.ItemRead.{ItemRead}
-use Rattle.codec.specs.declared.field.ItemRead.TheVariants as ItemRead
 use Rattle.codec.proofs.ItemLaws.{encode-length}
 use Rattle.codec.proofs.Inverse.{read_room, item_forth}
 use Rattle.codec.proofs.Stands.{bytes_part}
 use Rattle.recording.specs.declared.field.Found.{Found}
-use Rattle.recording.specs.declared.field.Found.TheVariants as Found
 use Rattle.recording.specs.declared.field.Field.{Field}
 use Rattle.tape.specs.Sample.{position_of}
 use Rattle.tape.specs.declared.sample.Placed.{Placed}
-use Rattle.tape.specs.declared.sample.Placed.TheVariants as Placed
 use Rattle.text.specs.Put.{hexes}
 use Rattle.text.proofs.PutLaws.{decimal_length, hexes-length}
 use Rattle.listing.proofs.FixedLaws.{fixed_length}
@@ -43,7 +37,6 @@ use Rattle.listing.proofs.SpreadLaws.{pairs-length}
 use Rattle.listing.proofs.EscapeLaws.{note_length}
 use Rattle.listing.proofs.LinesLaws.{lines_past, lines_bad, lines_item}
 use Rattle.tape.specs.declared.microphone.Microphone.{Microphone}
-use Rattle.tape.specs.declared.microphone.Microphone.TheVariants as Microphone
 use Rattle.listing.specs.Line.{field_text, hex_text, time_text, sign_text, signed_text, placed_text, position_text, kind_text, is_fd, bus_text, id_digits, can_text, channels_text, flexray_text, error_text, ident_text, state_text, load_text, bytes_text, place_text, shown_text, front_text, item_line, frame_line, start_line, pair_line, refused_line, skipped_line, note_line, plain, escape_of, spread}
 use Rattle.listing.specs.Field.{Text, item_lines, found_lines, field_lines, with, with_all, text_of, whole_of}
 

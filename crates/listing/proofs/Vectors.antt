@@ -7,9 +7,7 @@ use Rattle.codec.specs.Ident.{can_fd}
 use Rattle.codec.specs.declared.time.Time.{Time}
 use Rattle.codec.specs.declared.ident.Kind.TheVariants as Kind
 use Rattle.codec.specs.declared.ident.Ident.{Ident}
-use Rattle.codec.specs.declared.ident.Ident.TheVariants as Ident
 use Rattle.codec.specs.declared.item.State.{State}
-use Rattle.codec.specs.declared.item.State.TheVariants as State
 use Rattle.codec.specs.declared.item.Item.{Item}
 use Rattle.tape.specs.Sample.{sample_of, placed_of}
 use Rattle.text.specs.Put.{letter_of, decimals, decimal_of}

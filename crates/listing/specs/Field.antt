@@ -6,10 +6,8 @@ use Rattle.codec.specs.Time.{recovered_of}
 use Rattle.codec.specs.Layout.{Entry}
 use Rattle.codec.specs.declared.time.Time.{Time}
 use Rattle.codec.specs.declared.number.Put.{Put}
-use Rattle.codec.specs.declared.number.Put.TheVariants as Put
 use Rattle.reader.specs.Frame.{items_of}
 use Rattle.recording.specs.declared.field.Found.{Found}
-use Rattle.recording.specs.declared.field.Found.TheVariants as Found
 use Rattle.recording.specs.declared.field.Field.{Field}
 use Rattle.tape.specs.declared.microphone.Microphone.{Microphone}
 use Rattle.listing.specs.Line.{frame_line, item_line, note_line, start_line, refused_line, skipped_line}

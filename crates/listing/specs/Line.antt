@@ -5,18 +5,13 @@ use Rattle.codec.specs.Ident.{kind_of, can_fd}
 use Rattle.codec.specs.declared.time.Time.{Time}
 use Rattle.codec.specs.declared.header.Header.{Header}
 use Rattle.codec.specs.declared.ident.Kind.{Kind}
-use Rattle.codec.specs.declared.ident.Kind.TheVariants as Kind
 use Rattle.codec.specs.declared.ident.Ident.{Ident}
-use Rattle.codec.specs.declared.ident.Ident.TheVariants as Ident
 use Rattle.codec.specs.declared.item.State.{State}
-use Rattle.codec.specs.declared.item.State.TheVariants as State
 use Rattle.codec.specs.declared.item.Item.{Item}
 use Rattle.tape.specs.Sample.{position_of}
 use Rattle.tape.specs.declared.sample.Placed.{Placed}
-use Rattle.tape.specs.declared.sample.Placed.TheVariants as Placed
 use Rattle.text.specs.Put.{decimal_of, hexes}
 use Rattle.tape.specs.declared.microphone.Microphone.{Microphone}
-use Rattle.tape.specs.declared.microphone.Microphone.TheVariants as Microphone
 
 -- '0' to '9' and 'A' to 'F'
 unfoldable pub capital_of : ℕ → ℕ

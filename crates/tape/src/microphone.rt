@@ -6,7 +6,7 @@ use codec::time::Time;
 use recording::field::Found;
 
 // Silent before the first good start.
-#[derive(Drop)]
+#[derive(Clone, Copy)]
 pub enum Microphone {
     Silent,
     Since(Time),
