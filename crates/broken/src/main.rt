@@ -5,7 +5,6 @@ mod breach;
 mod calls;
 
 use codec::number::Put;
-use libc::STDOUT_FILENO;
 
 fn past(put: Put, at: usize) -> usize {
     match put {
@@ -23,12 +22,11 @@ fn line(out: &mut [u8], k: usize) -> usize {
     past(codec::number::put_bytes(out, d, b" of 24 calls\n"), d)
 }
 
-fn main() {
-    let mut k: usize = 0;
-    while k < 14 {
+// A line that can't be written is only missing: who compares the lines sees that.
+fn main(rt: HostRuntime) {
+    for k in 0..14 {
         let mut out = [0u8; 100];
         let n = line(&mut out, k);
-        io::write_all(STDOUT_FILENO, text::part::front(&out, n));
-        k += 1;
+        let _ = console::write_all(&mut rt.stdout(), text::part::front(&out, n));
     }
 }

@@ -1,19 +1,17 @@
 // The recording in the pieces that reading gives.
 use crate::job::{Behind, Job};
-use libc::{STDERR_FILENO, STDIN_FILENO, STDOUT_FILENO};
+use console::Failure;
 use mending::check::Tally;
 use recording::pieces::Seen;
+use std::io;
+use std::io::{Read, Write};
 use tape::Microphone;
 
-// A program cannot end with a status of its own. What started it may listen here, and hears of a failure.
-const STATUS: i32 = 3;
-
-// What reading leaves behind it; where the text ends that is not yet written; and whether writing failed.
+// What reading leaves behind it, and where the text ends that is not yet written.
 #[derive(Drop)]
 struct Told {
     behind: Behind,
     at: usize,
-    failed: bool,
 }
 
 // What is kept from piece to piece: that, how much was read, and whether it is over.
@@ -24,75 +22,73 @@ struct State {
     over: bool,
 }
 
-fn fail(what: &[u8]) {
-    os::fail(what);
-    io::write_all(STATUS, b"1\n");
+fn not_read(job: Job, why: io::Error) -> Failure {
+    let what = match job {
+        Job::List => "list: reading the recording",
+        Job::Check => "check: reading the recording",
+        Job::Mend => "mend: reading the recording",
+    };
+    Failure { what, why }
 }
 
-fn fail_reading(job: Job) {
-    match job {
-        Job::List => fail(b"list: reading the recording"),
-        Job::Check => fail(b"check: reading the recording"),
-        Job::Mend => fail(b"mend: reading the recording"),
-    }
+fn not_written(job: Job, why: io::Error) -> Failure {
+    let what = match job {
+        Job::List => "list: writing the listing",
+        Job::Check => "check: writing the lines",
+        Job::Mend => "mend: writing the copy",
+    };
+    Failure { what, why }
 }
 
-fn fail_writing(job: Job) {
-    match job {
-        Job::List => fail(b"list: writing the listing"),
-        Job::Check => fail(b"check: writing the lines"),
-        Job::Mend => fail(b"mend: writing the copy"),
-    }
+fn written<W: Write>(output: &mut W, told: Told, out: &[u8]) -> io::Result<Told> {
+    console::write_all(output, text::part::front(out, told.at))?;
+    let behind = told.behind;
+    Ok(Told { behind, at: 0 })
 }
 
 // What is written of one field is at most 65,538 bytes, so that it fits after as many.
-fn roomy(told: Told, out: &[u8]) -> Told {
+fn roomy<W: Write>(output: &mut W, told: Told, out: &[u8]) -> io::Result<Told> {
     if told.at <= 65538 {
-        return told;
+        return Ok(told);
     }
-    written(told, out)
+    written(output, told, out)
 }
 
-fn written(told: Told, out: &[u8]) -> Told {
-    let behind = told.behind;
-    let failed = told.failed || !io::write_all(STDOUT_FILENO, text::part::front(out, told.at));
-    Told {
-        behind,
-        at: 0,
-        failed,
-    }
-}
-
-fn found(job: Job, told: Told, seen: Seen, body: &[u8], hold: &[u8], out: &mut [u8]) -> Told {
+fn found<W: Write>(
+    output: &mut W,
+    job: Job,
+    told: Told,
+    seen: Seen,
+    body: &[u8],
+    hold: &[u8],
+    out: &mut [u8],
+) -> io::Result<Told> {
     match seen {
         Seen::Field(field) => {
-            let roomy = roomy(told, out);
+            let roomy = roomy(output, told, out)?;
             let before = roomy.behind;
             let done = crate::job::found(job, before, field, body, hold, out, roomy.at);
             let behind = done.behind;
-            Told {
-                behind,
-                at: done.at,
-                failed: roomy.failed,
-            }
+            let at = done.at;
+            Ok(Told { behind, at })
         }
-        Seen::More => told,
+        Seen::More => Ok(told),
     }
 }
 
 // The fields that end in this piece, and then nothing is held back: who watches sees what was read.
-fn take(
+fn take<W: Write>(
+    output: &mut W,
     job: Job,
     piece: &[u8],
     body: &mut [u8; 1472],
     hold: &mut [u8; 65538],
     out: &mut [u8],
     start: Behind,
-) -> Told {
+) -> io::Result<Told> {
     let mut told = Told {
         behind: start,
         at: 0,
-        failed: false,
     };
     let mut rest = piece;
     while 0 < rest.len() {
@@ -110,38 +106,39 @@ fn take(
                 tally,
             },
             at: told.at,
-            failed: told.failed,
         };
-        told = found(job, on, seen, body, hold, out);
+        told = found(output, job, on, seen, body, hold, out)?;
         rest = &rest[used..];
     }
-    written(told, out)
+    written(output, told, out)
 }
 
-// Every 16 MiB, on standard error.
-fn tell(job: Job, before: u64, read: u64) {
+// Every 16 MiB, on standard error. A line that cannot be written there is no failure.
+fn tell<E: Write>(errors: &mut E, job: Job, before: u64, read: u64) {
     if before / 16777216 == read / 16777216 {
         return;
     }
     let mut line = [0u8; 64];
     let n = crate::job::come(job, &mut line, read / 1048576);
-    io::write_all(STDERR_FILENO, text::part::front(&line, n));
+    let _ = console::write_all(errors, text::part::front(&line, n));
 }
 
-fn over(behind: Behind, read: u64) -> State {
-    State {
-        behind,
-        read,
-        over: true,
-    }
-}
-
-fn last(job: Job, out: &mut [u8], behind: Behind, read: u64) -> State {
+fn last<W: Write>(
+    output: &mut W,
+    job: Job,
+    out: &mut [u8],
+    state: State,
+) -> Result<State, Failure> {
+    let behind = state.behind;
     let at = crate::job::last(job, behind, out);
-    if !io::write_all(STDOUT_FILENO, text::part::front(out, at)) {
-        fail_writing(job);
+    match console::write_all(output, text::part::front(out, at)) {
+        Ok(()) => Ok(State {
+            behind,
+            read: state.read,
+            over: true,
+        }),
+        Err(why) => Err(not_written(job, why)),
     }
-    over(behind, read)
 }
 
 fn grown(read: u64, n: usize) -> u64 {
@@ -153,46 +150,50 @@ fn grown(read: u64, n: usize) -> u64 {
     }
 }
 
-fn goes_on(job: Job, told: Told, before: u64, n: usize) -> State {
-    let behind = told.behind;
-    let read = grown(before, n);
-    if told.failed {
-        fail_writing(job);
-        return over(behind, read);
-    }
-    tell(job, before, read);
-    State {
-        behind,
-        read,
-        over: false,
-    }
-}
-
-fn turn(
+fn turn<R: Read, W: Write, E: Write>(
+    input: &mut R,
+    output: &mut W,
+    errors: &mut E,
     job: Job,
     body: &mut [u8; 1472],
     hold: &mut [u8; 65538],
     out: &mut [u8],
     state: State,
-) -> State {
-    let mut chunk = io::large_buffer();
-    let got = libc::read(STDIN_FILENO, &mut chunk);
-    let behind = state.behind;
-    if got < 0 {
-        fail_reading(job);
-        return over(behind, state.read);
-    }
-    let n = io::count(got, &chunk);
+) -> Result<State, Failure> {
+    let mut chunk = [0u8; 65536];
+    let n = match input.read(&mut chunk) {
+        Ok(n) => n,
+        Err(why) => return Err(not_read(job, why)),
+    };
     if n == 0 {
-        return last(job, out, behind, state.read);
+        return last(output, job, out, state);
     }
-    let told = take(job, &chunk[..n], body, hold, out, behind);
-    goes_on(job, told, state.read, n)
+    let read = grown(state.read, n);
+    match take(output, job, &chunk[..n], body, hold, out, state.behind) {
+        Ok(told) => {
+            tell(errors, job, state.read, read);
+            let behind = told.behind;
+            Ok(State {
+                behind,
+                read,
+                over: false,
+            })
+        }
+        Err(why) => Err(not_written(job, why)),
+    }
 }
 
-// A proved loop has to end, and nothing says that the input does. So it counts its turns down, from a
-// number that no run uses up.
-pub(crate) fn run(body: &mut [u8; 1472], hold: &mut [u8; 65538], out: &mut [u8], job: Job) {
+// A proved loop has to end, and nothing says that the input does. So it counts its turns, up to a number that no run
+// reaches.
+pub(crate) fn run<R: Read, W: Write, E: Write>(
+    input: &mut R,
+    output: &mut W,
+    errors: &mut E,
+    job: Job,
+    body: &mut [u8; 1472],
+    hold: &mut [u8; 65538],
+    out: &mut [u8],
+) -> Result<(), Failure> {
     let mut state = State {
         behind: Behind {
             place: recording::pieces::begin(),
@@ -202,12 +203,11 @@ pub(crate) fn run(body: &mut [u8; 1472], hold: &mut [u8; 65538], out: &mut [u8],
         read: 0,
         over: false,
     };
-    let mut turns = u64::MAX;
-    while 0 < turns {
-        state = turn(job, body, hold, out, state);
+    for _ in 0..u64::MAX {
+        state = turn(input, output, errors, job, body, hold, out, state)?;
         if state.over {
-            return;
+            return Ok(());
         }
-        turns -= 1;
     }
+    Ok(())
 }

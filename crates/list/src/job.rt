@@ -9,7 +9,7 @@ use recording::field::Field;
 use recording::pieces::{Place, Step};
 use tape::Microphone;
 
-#[derive(Drop)]
+#[derive(Clone, Copy)]
 pub(crate) enum Job {
     List,
     Check,

@@ -6,11 +6,10 @@ mod input;
 mod job;
 
 use crate::job::Job;
+use std::process::ExitCode;
+use std::rt::Env;
 
-fn wanted() -> Job {
-    let mut name = io::buffer();
-    let n = os::arg(1, &mut name);
-    let word = text::part::front(&name, n);
+fn called(word: &[u8]) -> Job {
     if text::line::same(word, b"check") {
         return Job::Check;
     }
@@ -20,11 +19,29 @@ fn wanted() -> Job {
     Job::List
 }
 
+// The first argument, where it is one of the other two names.
+fn wanted(env: &impl Env) -> Job {
+    let mut name = [0u8; 4096];
+    match env.arg(1, &mut name) {
+        Ok(n) => called(&name[..n]),
+        Err(_) => Job::List,
+    }
+}
+
 // What is kept from piece to piece is lent from here, since there is no heap: the body of the field under way, the
 // whole of it for who mends, and what is not yet written.
-fn main() {
+fn main(rt: HostRuntime) -> ExitCode {
     let mut body = [0u8; 1472];
     let mut hold = [0u8; 65538];
     let mut out = [0u8; 131328];
-    input::run(&mut body, &mut hold, &mut out, wanted());
+    let end = input::run(
+        &mut rt.stdin(),
+        &mut rt.stdout(),
+        &mut rt.stderr(),
+        wanted(&rt),
+        &mut body,
+        &mut hold,
+        &mut out,
+    );
+    console::ended(&rt, end)
 }

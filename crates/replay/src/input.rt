@@ -1,15 +1,22 @@
 // The script in chunks, cut into lines.
 use crate::record::Taped;
 use codec::number::Put;
-use libc::{STDERR_FILENO, STDIN_FILENO, STDOUT_FILENO};
+use console::Failure;
 use mirror::engine::Engine;
+use std::io;
+use std::io::{Read, Write};
 
-// A program cannot end with a status of its own. What started it may listen here, and hears of a failure.
-const STATUS: i32 = 3;
+// Where answers go, and the recording that `record` makes.
+#[derive(Drop)]
+pub(crate) struct Ends<W, E> {
+    pub(crate) output: W,
+    pub(crate) errors: E,
+    pub(crate) recording: bool,
+}
 
 // The line being gathered: its number, how much of it is held, and whether it is too long to hold; and
 // whether the input is over.
-#[derive(Drop)]
+#[derive(Clone, Copy)]
 struct Place {
     number: u64,
     held: usize,
@@ -24,14 +31,12 @@ struct State {
     place: Place,
 }
 
-// The engine after a line; where the answers end that are not yet written, and where the recording; and
-// whether writing failed.
+// The engine after a line; where the answers end that are not yet written, and where the recording.
 #[derive(Drop)]
 struct Told {
     engine: Engine,
     at: usize,
     taped: usize,
-    failed: bool,
 }
 
 fn told_first(engine: Engine) -> Told {
@@ -39,50 +44,61 @@ fn told_first(engine: Engine) -> Told {
         engine,
         at: 0,
         taped: 0,
-        failed: false,
     }
 }
 
-fn fail(what: &[u8]) {
-    os::fail(what);
-    io::write_all(STATUS, b"1\n");
-}
-
-// `record` has its recording on standard output.
-fn answers_to(recording: bool) -> i32 {
-    if recording {
-        STDERR_FILENO
+fn not_read(recording: bool, why: io::Error) -> Failure {
+    let what = if recording {
+        "record: reading"
     } else {
-        STDOUT_FILENO
-    }
+        "replay: reading"
+    };
+    Failure { what, why }
 }
 
-// The recording first, and no answer where that fails: none is seen of a field that is not there.
-fn written_both(told: Told, out: &[u8], tape: &[u8], recording: bool) -> bool {
-    if !io::write_all(STDOUT_FILENO, text::part::front(tape, told.taped)) {
-        return false;
-    }
-    io::write_all(answers_to(recording), text::part::front(out, told.at))
+fn not_written(recording: bool, why: io::Error) -> Failure {
+    let what = if recording {
+        "record: writing"
+    } else {
+        "replay: writing"
+    };
+    Failure { what, why }
 }
 
-// After a failure nothing more is written: what is there stays whole up to it.
-fn flush(told: Told, out: &[u8], tape: &[u8], recording: bool) -> Told {
-    let engine = told.engine;
-    let failed = told.failed || !written_both(told, out, tape, recording);
-    Told {
-        engine,
-        at: 0,
-        taped: 0,
-        failed,
+// The recording is on standard output, and goes first: where that fails no answer is seen of a field that is not there.
+fn write<W: Write, E: Write>(ends: &mut Ends<W, E>, tape: &[u8], answers: &[u8]) -> io::Result<()> {
+    if !ends.recording {
+        return console::write_all(&mut ends.output, answers);
     }
+    console::write_all(&mut ends.output, tape)?;
+    console::write_all(&mut ends.errors, answers)
+}
+
+fn flush<W: Write, E: Write>(
+    ends: &mut Ends<W, E>,
+    told: Told,
+    out: &[u8],
+    tape: &[u8],
+) -> io::Result<Told> {
+    write(
+        ends,
+        text::part::front(tape, told.taped),
+        text::part::front(out, told.at),
+    )?;
+    Ok(told_first(told.engine))
 }
 
 // An answer is at most 140,004 bytes, and a field 1,475, so that one more of each fits after these.
-fn roomy(told: Told, out: &[u8], tape: &[u8], recording: bool) -> Told {
+fn roomy<W: Write, E: Write>(
+    ends: &mut Ends<W, E>,
+    told: Told,
+    out: &[u8],
+    tape: &[u8],
+) -> io::Result<Told> {
     if (told.at <= 65536) & (told.taped <= 49152) {
-        return told;
+        return Ok(told);
     }
-    flush(told, out, tape, recording)
+    flush(ends, told, out, tape)
 }
 
 // A line that does not fit is judged by its length alone, so its rest is not held.
@@ -145,7 +161,6 @@ fn answered(taped: Taped, told: Told, out: &mut [u8], number: u64) -> Told {
         engine,
         at: end(out, told.at, put, number),
         taped: taped.held,
-        failed: told.failed,
     }
 }
 
@@ -190,28 +205,27 @@ fn unread(told: Told, out: &mut [u8], number: u64) -> Told {
         engine,
         at: bad(out, told.at, number),
         taped: told.taped,
-        failed: told.failed,
     }
 }
 
-fn close(
+fn close<W: Write, E: Write>(
+    ends: &mut Ends<W, E>,
     before: Told,
     line: &[u8],
     frame: &mut [u8],
     tape: &mut [u8],
     out: &mut [u8],
     place: Place,
-    recording: bool,
-) -> Told {
-    let told = roomy(before, out, tape, recording);
+) -> io::Result<Told> {
+    let told = roomy(ends, before, out, tape)?;
     if place.long {
-        return unread(told, out, place.number);
+        return Ok(unread(told, out, place.number));
     }
     let whole = text::part::front(line, place.held);
-    if recording {
-        record(told, whole, frame, tape, out, place.number)
+    if ends.recording {
+        Ok(record(told, whole, frame, tape, out, place.number))
     } else {
-        play(told, whole, frame, out, place.number)
+        Ok(play(told, whole, frame, out, place.number))
     }
 }
 
@@ -228,21 +242,20 @@ fn ended(engine: Engine, place: Place) -> State {
 }
 
 // No answer and no field is held back: who watches sees what was read.
-fn written(told: Told, out: &[u8], tape: &[u8], place: Place, recording: bool) -> State {
-    let done = flush(told, out, tape, recording);
+fn written<W: Write, E: Write>(
+    ends: &mut Ends<W, E>,
+    told: Told,
+    out: &[u8],
+    tape: &[u8],
+    place: Place,
+) -> io::Result<State> {
+    let done = flush(ends, told, out, tape)?;
     let engine = done.engine;
-    if !done.failed {
-        return State { engine, place };
-    }
-    if recording {
-        fail(b"record: writing");
-    } else {
-        fail(b"replay: writing");
-    }
-    ended(engine, place)
+    Ok(State { engine, place })
 }
 
-fn take(
+fn take<W: Write, E: Write>(
+    ends: &mut Ends<W, E>,
     chunk: &[u8],
     line: &mut [u8],
     frame: &mut [u8],
@@ -250,8 +263,7 @@ fn take(
     out: &mut [u8],
     engine: Engine,
     start: Place,
-    recording: bool,
-) -> State {
+) -> io::Result<State> {
     let mut place = start;
     let mut told = told_first(engine);
     let mut rest = chunk;
@@ -259,78 +271,81 @@ fn take(
         let n = text::line::find(rest, b'\n');
         place = gather(line, text::part::front(rest, n), place);
         if rest.len() <= n {
-            return written(told, out, tape, place, recording);
+            return written(ends, told, out, tape, place);
         }
         rest = &rest[n + 1..];
-        told = close(told, line, frame, tape, out, place, recording);
+        told = close(ends, told, line, frame, tape, out, place)?;
         place = next(place);
     }
-    written(told, out, tape, place, recording)
+    written(ends, told, out, tape, place)
 }
 
 // A last line needs no line feed; an empty piece after the last line feed is no line.
-fn last(
+fn last<W: Write, E: Write>(
+    ends: &mut Ends<W, E>,
     line: &[u8],
     frame: &mut [u8],
     tape: &mut [u8],
     out: &mut [u8],
     engine: Engine,
     place: Place,
-    recording: bool,
-) -> State {
+) -> io::Result<State> {
     if place.long | (0 < place.held) {
-        let told = close(told_first(engine), line, frame, tape, out, place, recording);
-        let state = written(told, out, tape, place, recording);
-        return ended(state.engine, place);
+        let told = close(ends, told_first(engine), line, frame, tape, out, place)?;
+        let state = written(ends, told, out, tape, place)?;
+        return Ok(ended(state.engine, place));
     }
-    ended(engine, place)
+    Ok(ended(engine, place))
 }
 
-fn turn(
+// Of an empty chunk there is no more to come.
+fn taken<W: Write, E: Write>(
+    ends: &mut Ends<W, E>,
+    chunk: &[u8],
     line: &mut [u8],
     frame: &mut [u8],
     tape: &mut [u8],
     out: &mut [u8],
     state: State,
-    recording: bool,
-) -> State {
-    let mut chunk = io::large_buffer();
-    let got = libc::read(STDIN_FILENO, &mut chunk);
+) -> io::Result<State> {
     let engine = state.engine;
     let place = state.place;
-    if got < 0 {
-        if recording {
-            fail(b"record: reading");
-        } else {
-            fail(b"replay: reading");
-        }
-        return ended(engine, place);
+    if chunk.len() == 0 {
+        return last(ends, line, frame, tape, out, engine, place);
     }
-    let n = io::count(got, &chunk);
-    if n == 0 {
-        return last(line, frame, tape, out, engine, place, recording);
-    }
-    take(
-        &chunk[..n],
-        line,
-        frame,
-        tape,
-        out,
-        engine,
-        place,
-        recording,
-    )
+    take(ends, chunk, line, frame, tape, out, engine, place)
 }
 
-// A proved loop has to end, and nothing says that the input does. So it counts its turns down, from a
-// number that no run uses up.
-pub(crate) fn run(
+fn turn<R: Read, W: Write, E: Write>(
+    input: &mut R,
+    ends: &mut Ends<W, E>,
     line: &mut [u8],
     frame: &mut [u8],
     tape: &mut [u8],
     out: &mut [u8],
-    recording: bool,
-) {
+    state: State,
+) -> Result<State, Failure> {
+    let mut chunk = [0u8; 65536];
+    let n = match input.read(&mut chunk) {
+        Ok(n) => n,
+        Err(why) => return Err(not_read(ends.recording, why)),
+    };
+    match taken(ends, &chunk[..n], line, frame, tape, out, state) {
+        Ok(next) => Ok(next),
+        Err(why) => Err(not_written(ends.recording, why)),
+    }
+}
+
+// A proved loop has to end, and nothing says that the input does. So it counts its turns, up to a number that no run
+// reaches.
+pub(crate) fn run<R: Read, W: Write, E: Write>(
+    input: &mut R,
+    ends: &mut Ends<W, E>,
+    line: &mut [u8],
+    frame: &mut [u8],
+    tape: &mut [u8],
+    out: &mut [u8],
+) -> Result<(), Failure> {
     let place = Place {
         number: 1,
         held: 0,
@@ -341,12 +356,11 @@ pub(crate) fn run(
         engine: mirror::engine::fresh(),
         place,
     };
-    let mut turns = u64::MAX;
-    while 0 < turns {
-        state = turn(line, frame, tape, out, state, recording);
+    for _ in 0..u64::MAX {
+        state = turn(input, ends, line, frame, tape, out, state)?;
         if state.place.over {
-            return;
+            return Ok(());
         }
-        turns -= 1;
     }
+    Ok(())
 }

@@ -9,19 +9,39 @@ mod read;
 mod record;
 mod source;
 
-fn is_record() -> bool {
-    let mut name = io::buffer();
-    let n = os::arg(1, &mut name);
-    text::line::same(text::part::front(&name, n), b"record")
+use crate::input::Ends;
+use std::process::ExitCode;
+use std::rt::Env;
+
+// The first argument says which.
+fn is_record(env: &impl Env) -> bool {
+    let mut name = [0u8; 4096];
+    match env.arg(1, &mut name) {
+        Ok(n) => text::line::same(&name[..n], b"record"),
+        Err(_) => false,
+    }
 }
 
 // What is kept from line to line is lent from here, since there is no heap: the line so far, at most
 // 200,000 characters; the frame that a line spells, two characters to a byte; what of the recording and of
 // the answers is not yet written.
-fn main() {
+fn main(rt: HostRuntime) -> ExitCode {
     let mut line = [0u8; 200000];
     let mut frame = [0u8; 100000];
     let mut tape = [0u8; 65536];
     let mut out = [0u8; 262144];
-    input::run(&mut line, &mut frame, &mut tape, &mut out, is_record());
+    let mut ends = Ends {
+        output: rt.stdout(),
+        errors: rt.stderr(),
+        recording: is_record(&rt),
+    };
+    let end = input::run(
+        &mut rt.stdin(),
+        &mut ends,
+        &mut line,
+        &mut frame,
+        &mut tape,
+        &mut out,
+    );
+    console::ended(&rt, end)
 }
