@@ -26,3 +26,21 @@ pub fn write_all<W: Write>(to: &mut W, bytes: &[u8]) -> io::Result<()>
     }
     Ok(())
 }
+
+#[cfg(test)]
+mod tests {
+    use super::*;
+    use std::test::Fail;
+
+    #[test]
+    fn writes_all_or_stops(rt: HostRuntime) -> Result<(), Fail> {
+        let mut whole = Vec::new(rt.alloc());
+        write_all(&mut whole, b"field")?;
+        assert_eq!(rt; whole.as_slice(), b"field".as_slice());
+        let mut room = [0u8; 3];
+        let mut rest: &mut [u8] = &mut room;
+        assert!(rt; write_all(&mut rest, b"field").is_err());
+        assert_eq!(rt; &room[..], b"fie".as_slice());
+        Ok(())
+    }
+}
