@@ -14,12 +14,11 @@ struct Told {
     at: usize,
 }
 
-// What is kept from piece to piece: that, how much was read, and whether it is over.
+// What is kept from piece to piece: that, and how much was read.
 #[derive(Drop)]
 struct State {
     behind: Behind,
     read: u64,
-    over: bool,
 }
 
 fn not_read(job: Job, why: io::Error) -> Failure {
@@ -123,20 +122,10 @@ fn tell<E: Write>(errors: &mut E, job: Job, before: u64, read: u64) {
     let _ = console::write_all(errors, text::part::front(&line, n));
 }
 
-fn last<W: Write>(
-    output: &mut W,
-    job: Job,
-    out: &mut [u8],
-    state: State,
-) -> Result<State, Failure> {
-    let behind = state.behind;
+fn last<W: Write>(output: &mut W, job: Job, out: &mut [u8], behind: Behind) -> Result<(), Failure> {
     let at = crate::job::last(job, behind, out);
     match console::write_all(output, text::part::front(out, at)) {
-        Ok(()) => Ok(State {
-            behind,
-            read: state.read,
-            over: true,
-        }),
+        Ok(()) => Ok(()),
         Err(why) => Err(not_written(job, why)),
     }
 }
@@ -150,6 +139,7 @@ fn grown(read: u64, n: usize) -> u64 {
     }
 }
 
+// None where the input is over.
 fn turn<R: Read, W: Write, E: Write>(
     input: &mut R,
     output: &mut W,
@@ -159,25 +149,24 @@ fn turn<R: Read, W: Write, E: Write>(
     hold: &mut [u8; 65538],
     out: &mut [u8],
     state: State,
-) -> Result<State, Failure> {
+) -> Result<Option<State>, Failure> {
     let mut chunk = [0u8; 65536];
     let n = match input.read(&mut chunk) {
         Ok(n) => n,
         Err(why) => return Err(not_read(job, why)),
     };
+    let before = state.read;
+    let behind = state.behind;
     if n == 0 {
-        return last(output, job, out, state);
+        last(output, job, out, behind)?;
+        return Ok(None);
     }
-    let read = grown(state.read, n);
-    match take(output, job, &chunk[..n], body, hold, out, state.behind) {
+    let read = grown(before, n);
+    match take(output, job, &chunk[..n], body, hold, out, behind) {
         Ok(told) => {
-            tell(errors, job, state.read, read);
+            tell(errors, job, before, read);
             let behind = told.behind;
-            Ok(State {
-                behind,
-                read,
-                over: false,
-            })
+            Ok(Some(State { behind, read }))
         }
         Err(why) => Err(not_written(job, why)),
     }
@@ -201,12 +190,11 @@ pub(crate) fn run<R: Read, W: Write, E: Write>(
             tally: Tally { good: 0, bad: 0 },
         },
         read: 0,
-        over: false,
     };
     for _ in 0..u64::MAX {
-        state = turn(input, output, errors, job, body, hold, out, state)?;
-        if state.over {
-            return Ok(());
+        match turn(input, output, errors, job, body, hold, out, state)? {
+            Some(next) => state = next,
+            None => return Ok(()),
         }
     }
     Ok(())

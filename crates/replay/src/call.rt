@@ -5,7 +5,7 @@ use script::call::Call;
 use text::bytes::Bytes;
 
 // Which word the bytes are, a payload or a frame; 0 for a call without them.
-fn bytes_word(call: Call) -> usize {
+fn bytes_word(call: &Call) -> usize {
     match call {
         Call::Read => 1,
         Call::Step(_) => 2,
@@ -68,7 +68,7 @@ pub(crate) fn answer(
     at: usize,
 ) -> Made {
     let call = script::call::parse(line);
-    let k = bytes_word(call);
+    let k = bytes_word(&call);
     if k == 0 {
         return crate::engine::make(engine, call, line, frame, out, at);
     }
