@@ -123,9 +123,3 @@ soon s t r h k = go (ltb t s) refl (ltb r s) refl
         let m : r < s = ltb-true r s g in
         let w = same_or_suc ((6 * (s - suc r) + 5) / 125000) ((6 * (s - suc t) + 5) / 125000) (omega arith) (omega arith) in
         rw (apart_before s t l, apart_before s r m, sample_before (s - suc t), sample_before (s - suc r)) (both_before ((6 * (s - suc t) + 5) / 125000) ((6 * (s - suc r) + 5) / 125000) w)
-
--- so do the positions that are told
-pub positions_soon : (start t r : Time) → ns t ≤ ns r → ns r ≤ ns t + 20833 → (p q : ℤ)
-    → position_of start t ≡ Placed.Sample p → position_of start r ≡ Placed.Sample q → SameOrNext p q
-positions_soon start t r h k p q x y =
-    rw ((tells start t p x).0, (tells start r q y).0) (soon (ns start) (ns t) (ns r) h k)

@@ -6,7 +6,8 @@ use lib.ListN.{length}
 use Rattle.codec.specs.Time.{ns}
 use Rattle.codec.specs.declared.time.Time.{Time}
 use Rattle.reader.specs.Listing.{Yield, stepping}
-use Rattle.tape.proofs.PlaceLaws.{soon, positions_soon}
+use Rattle.tape.proofs.PlaceLaws.{soon}
+use Rattle.tape.proofs.SoonLaws.{positions_soon}
 use Rattle.mirror.specs.declared.engine.Engine.{Engine}
 use Rattle.history.specs.Account.{Account}
 use Rattle.history.specs.Ledger.{Limits, Line, Frame, Ledger, kept_in, filling_in}

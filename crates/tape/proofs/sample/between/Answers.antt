@@ -8,20 +8,20 @@ pub returns-then-n-gt86400000000000 : goal.returns-then-n-gt86400000000000
 returns-then-n-gt86400000000000 c =
     let s = c.args.start in
     let t = c.args.time in
-    rw (apart_after s t c.if-start-time.true) (sym (far (pos (t - s)) c.if-n-gt86400000000000.true))
+    rw (apart_after s t c.if-start-time.true) (sym (far (pos (t - s)) (omega arith)))
 
 pub returns-then-n-ge86400000000000 : goal.returns-then-n-ge86400000000000
 returns-then-n-ge86400000000000 c =
     let s = c.args.start in
     let t = c.args.time in
-    let k : 86400000000000 < suc (s - suc t) = let l = c.if-n-ge86400000000000.true in omega arith in
+    let k : 86400000000000 < suc (s - suc t) = omega arith in
     rw (apart_before s t c.if-start-time.false) (sym (far (negsuc (s - suc t)) k))
 
 pub returns-else-n-gt86400000000000 : goal.returns-else-n-gt86400000000000
 returns-else-n-gt86400000000000 c =
     let s = c.args.start in
     let t = c.args.time in
-    let k : t - s ≤ 86400000000000 = c.if-n-gt86400000000000.false in
+    let k : t - s ≤ 86400000000000 = omega arith in
     let e = c.later.ensures in
     rw (e, apart_after s t c.if-start-time.true) (ap Placed.Sample (stored (pos (t - s)) k) ∙ sym (near (pos (t - s)) k))
 
@@ -29,7 +29,7 @@ pub returns-else-n-ge86400000000000 : goal.returns-else-n-ge86400000000000
 returns-else-n-ge86400000000000 c =
     let s = c.args.start in
     let t = c.args.time in
-    let k : suc (s - suc t) ≤ 86400000000000 = let l = c.if-n-ge86400000000000.false in omega arith in
+    let k : suc (s - suc t) ≤ 86400000000000 = omega arith in
     let m : s - t - 1 ≡ s - suc t = omega arith in
     let e = c.earlier.ensures in
     rw (e, m, apart_before s t c.if-start-time.false)
