@@ -7,15 +7,18 @@ so that nothing can change unseen.
 import re
 from collections import namedtuple
 
-# kind: 'record', 'abbrev' (its text is part of every statement that cites it), 'plain', 'fn' or 'type'
-# says: the words of its statement; does: the words of its body, its clauses or its proof
-Name = namedtuple('Name', 'name kind public says does')
+# kind: 'record', 'abbrev' (its text is part of every statement that cites it), 'plain', 'ruleset', 'fn', 'type', or 'tactics' of a file
+# says: the words of its statement; does: the words of its body, its clauses or its proof; tactics: its attributes #[tactic(..)], which are proof
+Name = namedtuple('Name', 'name kind public says does tactics', defaults=('',))
 
 ANTT_WORD = re.compile(r'[(){}.;,@"]|«[^»]*»|[^\s(){}.;,@"«»]+')
 SIGNATURE = re.compile(r'((?:(?:unfoldable|abbrev|axiom|pub)\s+)*)([^\s(){}.;,@"]+)(?:\s*\{[^}]*\})?\s*:(?=\s|$)')
 DECLARED = re.compile(r'(pub\s+)?(record|data)\s+([^\s(){}.;,@"]+)')
-LITERAL = r'b"(?:\\.|[^"\\])*"|b\'(?:\\.[^\']*|[^\'\\])\''
-RATTLE_WORD = re.compile(LITERAL + r'|[^\W\d]\w*|\d\w*|->|=>|::|\S')
+RULES = re.compile(r'(?:pub\s+)?ruleset\s+([^\s(){}.;,@"]+)\s*=')
+# A quote behind a name is a part of it, and one with no other two characters on begins a lifetime.
+LITERAL = (r'\bb?r"[^"]*"|\bb?r#".*?"#|(?:\bb)?"(?:\\.|[^"\\])*"'
+           r"|(?<![\w'])(?:b'|')(?:\\.[^']*|[^'\\])'")
+RATTLE_WORD = re.compile(LITERAL + r'|[^\W\d]\w*|\d\w*|->|=>|::|\S', re.S)
 
 
 class Unread(Exception):
@@ -72,6 +75,9 @@ def antt_block(lines, given):
             head = next(i for i, line in enumerate(item) if line.split()[-1] == 'where')
             found += antt_block(item[head + 1:], ' '.join(filter(None, [given, antt_words(item[:head + 1])])))
             at = None
+        elif match := RULES.match(first):
+            at = [match[1], 'ruleset', False, [given], [antt_words(item)]]
+            found.append(at)
         elif match := DECLARED.match(first):
             at = [match[3], 'record', bool(match[1]), [given, antt_words(item)], []]
             found.append(at)
@@ -120,56 +126,116 @@ def close_of(words, at):
     raise Unread(' '.join(words[at:at + 12]))
 
 
+def first_of(words, at, wanted):
+    """The index of the first of these words from `at` on, in no bracket."""
+    while at < len(words) and words[at] not in wanted:
+        at = close_of(words, at) + 1
+    if at >= len(words):
+        raise Unread(' '.join(words[-12:]))
+    return at
+
+
+def past_parameters(words, at):
+    """Behind the type parameters that stand at `at`, if any do."""
+    depth, i = 0, at
+    while i < len(words):
+        depth += (words[i] == '<') - (words[i] == '>')
+        if depth == 0:
+            return i + (words[i] == '>')
+        i += 1
+    raise Unread(' '.join(words[at:at + 12]))
+
+
 def rattle_names(text):
-    """The functions and types of a file of src/; a method is named after its type."""
+    """The functions and types of a file of src/. A method is named after its type, and one of a trait after its type and the trait."""
     words, found = RATTLE_WORD.findall(rattle_without_comments(text)), []
-    rattle_block(words, 0, len(words), '', found)
+    try:
+        rattle_block(words, 0, len(words), '', found)
+    except IndexError:
+        raise Unread(' '.join(words[-12:])) from None
     return found
 
 
 def rattle_block(words, at, end, owner, found):
     while at < end:
-        start = at
-        while words[at] == '#':
-            at = close_of(words, at + 1) + 1
-        public = words[at] == 'pub'
-        at += public
-        if words[at] == '(':
-            public, at = False, close_of(words, at) + 1
-        if words[at] == 'extern':
-            at = words.index('fn', at)
-        word = words[at]
-        if word in ('use', 'mod', 'ghost', 'const', 'type'):
-            stop = words.index(';', at)
-            if word in ('const', 'type'):
-                found.append(Name(owner + words[at + 1], 'type', public, ' '.join(words[start:stop]), ''))
-            at = stop + 1
-        elif word in ('struct', 'enum'):
-            stop = close_of(words, next(i for i in range(at, end) if words[i] in ('{', '(', ';')))
-            found.append(Name(owner + words[at + 1], 'type', public, ' '.join(words[start:stop + 1]), ''))
-            at = stop + 1 + (words[stop + 1:stop + 2] == [';'])
-        elif word == 'impl':
-            stop = close_of(words, at + 2)
-            rattle_block(words, at + 3, stop, words[at + 1] + '::', found)
-            at = stop + 1
-        elif word == 'fn':
-            body = body_of(words, at)
-            stop = close_of(words, body)
-            found.append(Name(owner + words[at + 1], 'fn', public, ' '.join(words[start:body]), ' '.join(words[body:stop + 1])))
-            at = stop + 1
-        else:
-            raise Unread(' '.join(words[start:start + 12]))
+        at = rattle_item(words, at, owner, found)
+
+
+def attributes_at(words, at):
+    """Behind the attributes at `at`: the words of those that name tactics, and of the others."""
+    tactics, others = [], []
+    while words[at:at + 2] == ['#', '[']:
+        stop = close_of(words, at + 1) + 1
+        (tactics if words[at + 2] == 'tactic' else others).extend(words[at:stop])
+        at = stop
+    return at, tactics, others
+
+
+def rattle_item(words, at, owner, found):
+    """Adds what the item at `at` names, and gives where the next one begins."""
+    if words[at:at + 3] == ['#', '!', '[']:
+        stop = close_of(words, at + 2) + 1
+        found.append(Name('', 'tactics', False, '', '', ' '.join(words[at:stop])))
+        return stop
+    at, tactics, before = attributes_at(words, at)
+    start, public = at, words[at] == 'pub'
+    at += public
+    if words[at] == '(':
+        public, at = False, close_of(words, at) + 1
+    while words[at] in ('unsafe', 'extern') or words[at][0] == '"' or words[at:at + 2] == ['const', 'fn']:
+        at += 1
+    word, name = words[at], owner + words[at + 1]
+    if word in ('use', 'mod') or words[at:at + 2] == ['ghost', 'use']:
+        stop = first_of(words, at, (';', '{') if word == 'mod' else (';',))
+        if words[stop] == ';':
+            return stop + 1
+        rattle_block(words, stop + 1, close_of(words, stop), name + '::', found)
+        return close_of(words, stop) + 1
+    if word in ('const', 'static', 'type', 'ghost'):
+        stop = first_of(words, at, (';',))
+        found.append(Name(name, 'type', public, ' '.join(before + words[start:stop]), '', ' '.join(tactics)))
+        return stop + 1
+    if word in ('struct', 'enum'):
+        stop = first_of(words, at, ('{', '(', ';'))
+        stop = first_of(words, stop, (';',)) if words[stop] == '(' else close_of(words, stop)
+        found.append(Name(name, 'type', public, ' '.join(before + words[start:stop + 1]), '', ' '.join(tactics)))
+        return stop + 1
+    if word in ('impl', 'trait'):
+        body = first_of(words, at, ('{',))
+        inner = owner + owner_in(words[past_parameters(words, at + 1):body]) if word == 'impl' else name
+        rattle_block(words, body + 1, close_of(words, body), inner + '::', found)
+        return close_of(words, body) + 1
+    if word == 'fn':
+        body = body_of(words, at)
+        stop = close_of(words, body)
+        found.append(Name(name, 'fn', public, ' '.join(before + words[start:body]), ' '.join(words[body:stop + 1]), ' '.join(tactics)))
+        return stop + 1
+    raise Unread(' '.join(words[start:start + 12]))
+
+
+def owner_in(head):
+    """The type of an `impl`, with its trait's name behind it where it has one."""
+    def last(path):
+        return [word for word in path[:path.index('<') if '<' in path else None] if word.isidentifier()][-1]
+
+    if 'for' not in head:
+        return last(head)
+    at = head.index('for')
+    return last(head[at + 1:]) + last(head[:at])
 
 
 def body_of(words, at):
-    """The index of the brace that opens the body of the function at `at`, behind its clauses."""
-    i, clause = close_of(words, words.index('(', at)) + 1, False
-    while True:
-        if words[i] in ('requires', 'ensures'):
+    """The index of the brace that opens the body of the function at `at`, behind its clauses; of the semicolon where it has no body."""
+    i, clause = close_of(words, past_parameters(words, at + 2)) + 1, False
+    while words[i] != ';':
+        if words[i] in ('requires', 'ensures', 'ghost'):
             clause = True
-        elif words[i] in ('(', '[') or (words[i] == '{' and clause):
-            clause = clause and words[i] != '{'
-            i = close_of(words, i)
         elif words[i] == '{':
-            return i
+            if not clause:
+                return i
+            clause = False
+            i = close_of(words, i)
+        elif words[i] in ('(', '['):
+            i = close_of(words, i)
         i += 1
+    return i
