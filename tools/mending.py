@@ -12,7 +12,7 @@ from collections import namedtuple
 from concurrent.futures import ThreadPoolExecutor
 
 from comparing import MIB, TOLD, add, copies, cut, fine, lists, random_sizes, same, same_bytes, stop, ways
-from recordings import DIRECT, complete, in_pieces, made, stored, whole
+from recordings import complete, in_pieces, made, stored, whole
 
 Programs = namedtuple('Programs', 'list record check mend')
 # Of this many bytes at most are the files in which many small things stand together.
@@ -134,12 +134,6 @@ def compare_mending(oracle, programs, seed, recordings, small):
     compare_copies(oracle, programs, mended)
 
 
-def some_lengths():
-    """Where all of them take too long: the short ones, and those around every 256th."""
-    near = {at + by for at in range(256, 65536, 256) for by in (-1, 0, 1)}
-    return sorted({*range(2048), *near, LENGTHS[-1]})
-
-
 def unknown_fields(lengths):
     """A field of each of these lengths, with the unknown tags by turns."""
     body = (bytes(range(251)) * 262)[:LENGTHS[-1]]
@@ -194,6 +188,6 @@ def try_long(oracle, word, command, recording):
         if bool(re.search(rb'\d', told)) != (len(data) > TOLD):
             stop(what, f'on standard error {told[-400:]!r}')
         memory.append(most or 0)
-    if DIRECT and memory[1] > memory[0] + MORE_MEMORY:
+    if memory[1] > memory[0] + MORE_MEMORY:
         stop(word, f'{memory[0]} KiB of memory for 1 MiB and {memory[1]} KiB for 64 MiB')
     return f'{word} at most {memory[0]} KiB of memory for 1 MiB and {memory[1]} KiB for 64 MiB'

@@ -1,15 +1,12 @@
 """What the tools that try `list`, `record`, `check` and `mend` have in common: the programs, the stored cases, and inputs that come in pieces."""
 import fcntl
 import os
-import platform
 import re
 import subprocess
 import tempfile
 import termios
 
 os.chdir(os.path.join(os.path.dirname(os.path.abspath(__file__)), '..'))
-
-DIRECT = platform.machine() == 'x86_64'
 
 
 def how(name):
