@@ -178,39 +178,47 @@ def rattle_item(words, at, owner, found):
         found.append(Name('', 'tactics', False, '', '', ' '.join(words[at:stop])))
         return stop
     at, tactics, before = attributes_at(words, at)
-    start, public = at, words[at] == 'pub'
-    at += public
-    if words[at] == '(':
-        public, at = False, close_of(words, at) + 1
-    while words[at] in ('unsafe', 'extern') or words[at][0] == '"' or words[at:at + 2] == ['const', 'fn']:
-        at += 1
-    word, name = words[at], owner + words[at + 1]
-    if word in ('use', 'mod') or words[at:at + 2] == ['ghost', 'use']:
-        stop = first_of(words, at, (';', '{') if word == 'mod' else (';',))
-        if words[stop] == ';':
-            return stop + 1
-        rattle_block(words, stop + 1, close_of(words, stop), name + '::', found)
-        return close_of(words, stop) + 1
-    if word in ('const', 'static', 'type', 'ghost'):
-        stop = first_of(words, at, (';',))
-        found.append(Name(name, 'type', public, ' '.join(before + words[start:stop]), '', ' '.join(tactics)))
-        return stop + 1
-    if word in ('struct', 'enum'):
+    start, public = at, words[at] == 'pub' and words[at + 1] != '('
+    at = word_of(words, at)
+    if words[at] == 'use' or words[at:at + 2] == ['ghost', 'use']:
+        return first_of(words, at, (';',)) + 1
+    if words[at] in ('mod', 'impl', 'trait'):
+        return rattle_inner(words, at, owner, found)
+    kind, body, stop = extent_of(words, at)
+    found.append(Name(owner + words[at + 1], kind, public, ' '.join(before + words[start:body]), ' '.join(words[body:stop]), ' '.join(tactics)))
+    return stop
+
+
+def word_of(words, at):
+    """The word that says what an item is, behind `pub` and the like."""
+    while words[at] in ('pub', 'unsafe', 'extern', '(') or words[at][0] == '"' or words[at:at + 2] == ['const', 'fn']:
+        at = close_of(words, at) + 1
+    return at
+
+
+def rattle_inner(words, at, owner, found):
+    """The items between the braces of a module, an `impl` or a trait, if it has any."""
+    body = first_of(words, at, ('{', ';'))
+    stop = close_of(words, body)
+    if words[body] == '{':
+        name = words[at + 1] if words[at] != 'impl' else owner_in(words[past_parameters(words, at + 1):body])
+        rattle_block(words, body + 1, stop, f'{owner}{name}::', found)
+    return stop + 1
+
+
+def extent_of(words, at):
+    """Of a declaration its kind, where what it says ends, and where it ends itself."""
+    if words[at] == 'fn':
+        body = body_of(words, at)
+        return 'fn', body, close_of(words, body) + 1
+    if words[at] in ('struct', 'enum'):
         stop = first_of(words, at, ('{', '(', ';'))
         stop = first_of(words, stop, (';',)) if words[stop] == '(' else close_of(words, stop)
-        found.append(Name(name, 'type', public, ' '.join(before + words[start:stop + 1]), '', ' '.join(tactics)))
-        return stop + 1
-    if word in ('impl', 'trait'):
-        body = first_of(words, at, ('{',))
-        inner = owner + owner_in(words[past_parameters(words, at + 1):body]) if word == 'impl' else name
-        rattle_block(words, body + 1, close_of(words, body), inner + '::', found)
-        return close_of(words, body) + 1
-    if word == 'fn':
-        body = body_of(words, at)
-        stop = close_of(words, body)
-        found.append(Name(name, 'fn', public, ' '.join(before + words[start:body]), ' '.join(words[body:stop + 1]), ' '.join(tactics)))
-        return stop + 1
-    raise Unread(' '.join(words[start:start + 12]))
+    elif words[at] in ('const', 'static', 'type', 'ghost'):
+        stop = first_of(words, at, (';',))
+    else:
+        raise Unread(' '.join(words[at:at + 12]))
+    return 'type', stop + 1, stop + 1
 
 
 def owner_in(head):
