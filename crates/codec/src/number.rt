@@ -9,7 +9,7 @@ pub fn low8(x: u64) -> u8
 }
 
 // The n low bytes of v, from the last to the first: one function for every width.
-#[tactic(auto, using(crate::proofs::NumberLaws::down_first, crate::proofs::NumberLaws::down, crate::proofs::NumberLaws::down_last, crate::proofs::NumberLaws::full))]
+#[tactic(auto, using(crate::proofs::NumberLaws::down_first, crate::proofs::NumberLaws::down, crate::proofs::NumberLaws::down_last))]
 pub fn put_be(out: &mut [u8], at: usize, v: u64, n: usize) -> Option<usize>
     ensures { Wrote true out.old at (be n v) out.new result }
 {
@@ -23,7 +23,7 @@ pub fn put_be(out: &mut [u8], at: usize, v: u64, n: usize) -> Option<usize>
 }
 
 // Bytes as they are.
-#[tactic(auto, using(crate::proofs::NumberLaws::full, crate::proofs::NumberLaws::copied))]
+#[tactic(auto, using(crate::proofs::NumberLaws::copied))]
 pub fn put_bytes(out: &mut [u8], at: usize, src: &[u8]) -> Option<usize>
     ensures { Wrote true out.old at src.now out.new result }
 {

@@ -1,6 +1,6 @@
 use Rattle.std.proofs.Common.{◌∙◌, ◌+◌, ◌≤◌, sym, length, arith}
 use Rattle.codec.specs.Item.{encode}
-use Rattle.codec.proofs.NumberLaws.{full, from_laid}
+use Rattle.codec.proofs.NumberLaws.{unwritten, from_laid}
 use Rattle.codec.proofs.ItemLaws.{ok_short, ok_ident, encode-length, item_laid}
 use Rattle.codec.proofs.item.write_item.Goals as goal
 
@@ -9,7 +9,7 @@ overflow_cast-n c = omega (arith, ok_short _ _ (sym c.item_ok.ensures ∙ c.if-n
 
 pub returns-in_err-get_part : goal.returns-in_err-get_part
 returns-in_err-get_part c =
-    rw c.from_residual.ensures (full (omega (arith, encode-length c.args.item c.args.payload.now, c.in_err-get_part.ensures.room)))
+    unwritten c.from_residual.ensures c.in_err-get_part.ensures.room (omega (arith, encode-length c.args.item c.args.payload.now))
 
 pub lay_ident-d-requires-clause-ident_value : goal.lay_ident-d-requires-clause-ident_value
 lay_ident-d-requires-clause-ident_value c = ok_ident _ _ (sym c.item_ok.ensures ∙ c.if-not-item_ok.false)
