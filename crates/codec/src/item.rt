@@ -15,6 +15,7 @@ pub struct Item {
     // the state byte that the item shows
     pub state: Option<u8>,
     pub ident: Ident,
+    // whether a payload is present, which may be empty; it stays beside the item (the paper's form for items)
     pub carries: bool,
 }
 
@@ -39,7 +40,7 @@ fn ident_bit(ident: Ident) -> u8
     }
 }
 
-// Which of state, id and payload are present, as bits 2, 1 and 0.
+// Which of state, id and payload are present, as bits 2, 1 and 0: the wire's own bits, as `read_flags` gives them.
 fn set_of(state: Option<u8>, ident: Ident, carries: bool) -> u8
     ensures { Below (set_of state ident carries) 8 result }
 {
