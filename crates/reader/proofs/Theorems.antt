@@ -29,7 +29,7 @@ use Rattle.codec.proofs.NumberLaws.{word_is}
 use Rattle.codec.proofs.HeaderLaws.{header_length}
 use Rattle.reader.proofs.AlongLaws.{walk_end, walk_item, items_end, items_item, starts_item, starts_here, starts_last}
 use Rattle.reader.proofs.FrameLaws.{accepted, all_along, laid_length, body-length}
-use Rattle.reader.specs.Frame.{walk_of, items_of, starts_of, Clean, judge_of, laid_out, step_of, held_of, payload_of, payload_at_of, item_at_of, time_in}
+use Rattle.reader.specs.Frame.{walk_of, items_of, starts_of, Clean, judge_of, laid_out, step_of, held_of, payload_of, payload_at_of, item_at_of, time_at, time_in}
 use Rattle.reader.specs.Listing.{stepping, listing, places_of, among, Framed}
 
 -- the bytes from a place on are the layout of the items read there, and each item is valid
@@ -143,7 +143,7 @@ last_place (e ∷ es) at =
 
 module _ (s : List ℕ) (b : Bytes s) {h : Header} (j : judge_of s ≡ Ok h) where
   pub time_is : time_in s ≡ h.time
-  unfolding time_in
+  unfolding time_at
   time_is =
       let a = accepted s j in
       let g = (header_got s a.0).long in

@@ -1,5 +1,5 @@
 -- Reading a frame (docs/RULES.md, "Reading a frame"): the verdict on the whole, then header, items and payloads.
-use Rattle.std.specs.Prelude.{ℕ, zero, suc, ◌-◌, ◌≡◌, Bool, false, ◌||◌, List, [], ◌∷◌, length, leb, eqb, Option, Some, None, Result, Ok, Err, ⊤}
+use Rattle.std.specs.Prelude.{ℕ, zero, suc, ◌+◌, ◌-◌, ◌≡◌, Bool, false, ◌||◌, List, [], ◌∷◌, length, leb, eqb, Option, Some, None, Result, Ok, Err, ⊤}
 use Rattle.std.specs.Result.{result_and}
 use Rattle.codec.specs.Choice.{pick}
 use Rattle.codec.specs.Number.{word_at, over}
@@ -63,9 +63,13 @@ open_header (HeaderRead.Refused why) k = Err why
 unfoldable pub judge_of : List ℕ → Result Header Refusal
 judge_of s = open_header (read_header s) (λ h. result_and (walk_of s 14) (Ok h))
 
+-- the time at an index, as a header has it: seconds (6), nanoseconds (4)
+unfoldable pub time_at : List ℕ → ℕ → Time
+time_at s at = record { sec = word_at 6 s at; nano = word_at 4 s (at + 6) }
+
 -- the header time
-unfoldable pub time_in : List ℕ → Time
-time_in s = record { sec = word_at 6 s 2; nano = word_at 4 s 8 }
+abbrev pub time_in : List ℕ → Time
+time_in s = time_at s 2
 
 -- what stands at a place, the frame not judged: the end, or the item with its recovered time
 unfoldable pub item_at_of : List ℕ → ℕ → Result (Option Stepped) Refusal

@@ -7,4 +7,4 @@ mod place;
 
 pub use copy::{RewriteError, rewrite};
 pub use frame::judge;
-pub use place::{Stepped, item_at, payload, payload_at, step};
+pub use place::{Stepped, item_at, payload, payload_at, step, time_at};

@@ -1,6 +1,6 @@
 // One item at a place, and its payload as that very part of the caller's frame.
 ghost use Rattle.std.specs.Prelude.{◌≡◌, ◌≤◌, length};
-ghost use Rattle.reader.specs.Frame.{time_in, starts_of, held_of, item_at_of, payload_at_of, step_of, payload_of};
+ghost use Rattle.reader.specs.Frame.{time_at, starts_of, held_of, item_at_of, payload_at_of, step_of, payload_of};
 
 use codec::field::ItemRead;
 use codec::item::Item;
@@ -16,14 +16,14 @@ pub struct Stepped {
     pub length: usize,
 }
 
-// The header time of a frame, whatever else stands in it.
-#[tactic(auto, unfolding(crate::specs::Frame::time_in))]
-fn time_in(frame: &[u8]) -> Time
-    ensures { result ≡ time_in frame.now }
+// The time at an index, as a header has it, whatever else stands there. What is past the bytes counts as zero.
+#[tactic(auto, using(crate::proofs::TimeLaws::nano_cut), unfolding(crate::specs::Frame::time_at))]
+pub fn time_at(s: &[u8], at: usize) -> Time
+    ensures { result ≡ time_at s.now at }
 {
     Time {
-        sec: codec::number::word_at(frame, 2, 6),
-        nano: codec::number::word_at(frame, 8, 4) as u32,
+        sec: codec::number::word_at(s, at, 6),
+        nano: codec::number::word_at(s, at.saturating_add(6), 4) as u32,
     }
 }
 
@@ -48,7 +48,7 @@ pub fn item_at(frame: &[u8], place: usize) -> Result<Option<Stepped>, Refusal>
     let offset = item.offset;
     Ok(Some(Stepped {
         next,
-        time: codec::time::recovered(time_in(frame), offset),
+        time: codec::time::recovered(time_at(frame, 2), offset),
         item,
         length: len,
     }))
