@@ -24,6 +24,7 @@ pub struct Field {
     pub found: Result<Found, RecordError>,
 }
 
+#[tactic(auto, using(crate::proofs::FieldLaws::frame_long, crate::proofs::FieldLaws::frame_good, crate::proofs::FieldLaws::frame_bad), unfolding(crate::specs::File::frame_found))]
 fn frame(length: u16, body: &[u8]) -> Result<Found, RecordError>
     ensures { result ≡ frame_found length body.now }
 {
@@ -33,6 +34,7 @@ fn frame(length: u16, body: &[u8]) -> Result<Found, RecordError>
     Ok(Found::Frame(reader::judge(body)?))
 }
 
+#[tactic(auto, using(crate::proofs::FieldLaws::note_long, crate::proofs::FieldLaws::note_good))]
 fn note(length: u16) -> Result<Found, RecordError>
     ensures { result ≡ note_found length }
 {
@@ -42,6 +44,7 @@ fn note(length: u16) -> Result<Found, RecordError>
     Ok(Found::Note)
 }
 
+#[tactic(auto, using(crate::proofs::FieldLaws::start_size, crate::proofs::FieldLaws::start_nanos, crate::proofs::FieldLaws::start_good))]
 fn start(length: u16, body: &[u8]) -> Result<Found, RecordError>
     ensures { result ≡ start_found length body.now }
 {

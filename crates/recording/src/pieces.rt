@@ -70,6 +70,7 @@ fn sound(p: Place) -> Place
 }
 
 // Byte k of tag and length: as it was read before, or from the piece.
+#[tactic(auto, using(crate::proofs::PlaceLaws::head_old, crate::proofs::PlaceLaws::head_got), unfolding(crate::specs::Pieces::head_byte))]
 fn head_byte(k: usize, past: usize, old: u8, piece: &[u8]) -> u8
     ensures { result ≡ head_byte k past old piece.now }
 {
@@ -92,6 +93,7 @@ fn headed(p: Place, piece: &[u8]) -> Place
 }
 
 // How many of n bytes belong to the field under way.
+#[tactic(auto, unfolding(crate::specs::Pieces::used_of))]
 fn used(p: Place, n: usize) -> usize
     ensures { result ≡ used_of p n }
 {
@@ -99,6 +101,7 @@ fn used(p: Place, n: usize) -> usize
 }
 
 // The bytes of the piece that belong to the body of the field under way.
+#[tactic(auto, using(crate::proofs::PlaceLaws::used_most))]
 fn part(p: Place, piece: &[u8]) -> &[u8]
     ensures { result.now ≡ part_of p piece.now }
 {
@@ -108,6 +111,7 @@ fn part(p: Place, piece: &[u8]) -> &[u8]
 }
 
 // They go after those that were kept before.
+#[tactic(auto, using(crate::proofs::PlaceLaws::not_kept))]
 fn keep(p: Place, buffer: &mut [u8], piece: &[u8])
     ensures { buffer.new ≡ buffer_of p buffer.old piece.now }
 {
@@ -148,6 +152,7 @@ fn done(p: Place, n: usize, found: Result<Found, RecordError>) -> Step
     }
 }
 
+#[tactic(auto, using(crate::proofs::PlaceLaws::ends_more, crate::proofs::PlaceLaws::ends_done))]
 fn ends(p: Place, n: usize, buffer: &[u8]) -> Step
     ensures { result ≡ ends_of p n buffer.now }
 {
@@ -191,6 +196,7 @@ pub fn inside(place: Place) -> usize
 }
 
 // At the end of the input: it must not be inside a field.
+#[tactic(auto, using(crate::proofs::PlaceLaws::finish_none, crate::proofs::PlaceLaws::finish_inside))]
 pub fn finish(place: Place) -> Result<(), RecordError>
     ensures { result ≡ finish_of place }
 {

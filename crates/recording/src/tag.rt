@@ -18,6 +18,7 @@ impl TryFrom<u8> for Tag {
 
     ghost try_from_gives = { λ n r. r ≡ tag_of n };
 
+    #[tactic(auto, unfolding(crate::specs::Tag::tag_of))]
     fn try_from(byte: u8) -> Result<Self, UnknownTag> {
         match byte {
             1 => Ok(Tag::Frame),

@@ -23,6 +23,7 @@ fn put_field(out: &mut [u8], at: usize, tag: Tag, body: &[u8]) -> Result<usize, 
 }
 
 // A frame that the reader refuses is not recorded, so that a recording lists clean.
+#[tactic(auto, using(crate::proofs::WriteLaws::not_recorded, crate::proofs::WriteLaws::recorded_as, crate::proofs::WriteLaws::frame_over, crate::proofs::WriteLaws::frame_judged, crate::proofs::WriteLaws::frame_refused))]
 pub fn frame(out: &mut [u8], at: usize, body: &[u8]) -> Result<usize, RecordError>
     ensures { Recorded (frame_answer body.now) out.old at (field_bytes 1 body.now) out.new result }
 {
@@ -33,6 +34,7 @@ pub fn frame(out: &mut [u8], at: usize, body: &[u8]) -> Result<usize, RecordErro
     put_field(out, at, Tag::Frame, body)
 }
 
+#[tactic(auto, using(crate::proofs::WriteLaws::not_recorded, crate::proofs::WriteLaws::recorded_as, crate::proofs::WriteLaws::note_over, crate::proofs::WriteLaws::note_fits))]
 pub fn note(out: &mut [u8], at: usize, body: &[u8]) -> Result<usize, RecordError>
     ensures { Recorded (note_answer body.now) out.old at (field_bytes 2 body.now) out.new result }
 {
@@ -51,6 +53,7 @@ fn lay_start(body: &mut [u8], t: Time)
 }
 
 // A microphone's start.
+#[tactic(auto, using(crate::proofs::WriteLaws::not_recorded, crate::proofs::WriteLaws::recorded_as, crate::proofs::WriteLaws::start_out, crate::proofs::WriteLaws::start_in_range))]
 pub fn start(out: &mut [u8], at: usize, t: Time) -> Result<usize, RecordError>
     ensures { Recorded (start_answer t) out.old at (field_bytes 3 (start_bytes t)) out.new result }
 {
