@@ -1,13 +1,15 @@
 // A recording handed over in pieces cut anywhere. What is kept from call to call is a place, and in a lent
 // buffer the body of the field under way, where its verdict needs it.
-ghost use Rattle.std.specs.Prelude.{◌≡◌, ◌+◌, ◌-◌, min};
+ghost use Rattle.std.specs.Prelude.{◌≡◌};
 ghost use Rattle.codec.specs.Number.{Below};
 ghost use Rattle.recording.specs.Pieces.{fresh, length_of, size_of, sound_of, head_byte, headed_of, used_of, part_of, buffer_of, found_of, counted, done_of, ends_of, next_of, kept_of, finish_of};
 
+use crate::error::RecordError;
 use crate::field::{Field, Found};
 
 // Where reading stands: how many bytes of the field under way were read, tag and length among them; those
-// three bytes, as far as they were read; and how many fields were skipped so far.
+// three bytes, as far as they were read; and how many fields were skipped so far. A caller may hand back any place: so its
+// bytes stand side by side, `sound` mends it, and neither an enum of states nor an invariant asks more of it.
 #[derive(Clone, Copy)]
 pub struct Place {
     pub past: usize,
@@ -17,30 +19,153 @@ pub struct Place {
     pub skipped: u32,
 }
 
-#[derive(Drop)]
-pub enum Seen {
-    Field(Field),
-    More,
-}
-
-// How much of the piece was used, and what was found: a field that is complete now, or the piece's end.
-#[derive(Drop)]
+// How much of the piece was used, and the field that is complete now, if the piece did not end before.
+#[derive(Clone, Copy)]
 pub struct Step {
     pub place: Place,
     pub used: usize,
-    pub seen: Seen,
+    pub seen: Option<Field>,
 }
 
-// Between two fields.
-fn between(skipped: u32) -> Place
-    ensures { result ≡ fresh skipped }
+impl Place {
+    fn between(skipped: u32) -> Place
+        ensures { result ≡ fresh skipped }
+    {
+        Place {
+            past: 0,
+            tag: 0,
+            high: 0,
+            low: 0,
+            skipped,
+        }
+    }
+
+    fn length(self) -> u16
+        ensures { result ≡ length_of self }
+    {
+        u16::from_be_bytes([self.high, self.low])
+    }
+
+    fn size(self) -> usize
+        ensures { Below (size_of self) 65539 result }
+    {
+        3 + usize::from(self.length())
+    }
+
+    // Reading never stops at the end of a field. A place that says so counts as one between two fields.
+    #[tactic(auto, using(crate::proofs::PlaceLaws::sound_same, crate::proofs::PlaceLaws::sound_fresh))]
+    fn sound(self) -> Place
+        ensures { result ≡ sound_of self }
+    {
+        if self.past < self.size() {
+            self
+        } else {
+            Place::between(self.skipped)
+        }
+    }
+
+    // With the bytes of tag and length that a piece brings.
+    #[tactic(auto, unfolding(crate::specs::Pieces::headed_of))]
+    fn headed(self, piece: &[u8]) -> Place
+        ensures { result ≡ headed_of self piece.now }
+    {
+        Place {
+            tag: head_byte(0, self.past, self.tag, piece),
+            high: head_byte(1, self.past, self.high, piece),
+            low: head_byte(2, self.past, self.low, piece),
+            ..self
+        }
+    }
+
+    // How many of n bytes belong to the field under way.
+    #[tactic(auto, unfolding(crate::specs::Pieces::used_of))]
+    fn used(self, n: usize) -> usize
+        ensures { result ≡ used_of self n }
+    {
+        n.min(self.size().saturating_sub(self.past))
+    }
+
+    // The bytes of the piece that belong to the body of the field under way.
+    #[tactic(auto, using(crate::proofs::PlaceLaws::used_most))]
+    fn part<'a>(self, piece: &'a [u8]) -> &'a [u8]
+        ensures { result.now ≡ part_of self piece.now }
+    {
+        let n = self.used(piece.len());
+        let head = 3usize.saturating_sub(self.past);
+        &piece[head.min(n)..n]
+    }
+
+    // They go after those that were kept before.
+    #[tactic(auto, using(crate::proofs::PlaceLaws::not_kept))]
+    fn keep(self, buffer: &mut [u8], piece: &[u8])
+        ensures { buffer.new ≡ buffer_of self buffer.old piece.now }
+    {
+        if crate::field::kept(self.tag, self.length()) {
+            codec::number::put_bytes(buffer, self.past.saturating_sub(3), self.part(piece));
+        }
+    }
+
+    #[tactic(auto, unfolding(crate::specs::Pieces::found_of))]
+    fn found(self, buffer: &[u8]) -> Result<Found, RecordError>
+        ensures { result ≡ found_of self buffer.now }
+    {
+        let length = self.length();
+        let body = codec::field::part_at(buffer, 0, usize::from(length));
+        crate::field::judge(self.tag, length, body)
+    }
+
+    // The field is complete with n bytes more.
+    fn done(self, n: usize, found: Result<Found, RecordError>) -> Step
+        ensures { result ≡ done_of self n found }
+    {
+        Step {
+            place: Place::between(count(found, self.skipped)),
+            used: n,
+            seen: Some(Field {
+                tag: self.tag,
+                length: self.length(),
+                found,
+            }),
+        }
+    }
+
+    // N bytes further, to the end of the field or short of it.
+    #[tactic(auto, using(crate::proofs::PlaceLaws::ends_more, crate::proofs::PlaceLaws::ends_done))]
+    fn ends(self, n: usize, buffer: &[u8]) -> Step
+        ensures { result ≡ ends_of self n buffer.now }
+    {
+        if self.size().saturating_sub(self.past) <= n {
+            return self.done(n, self.found(buffer));
+        }
+        Step {
+            place: Place {
+                past: self.past + n,
+                ..self
+            },
+            used: n,
+            seen: None,
+        }
+    }
+}
+
+// Byte k of tag and length: as it was read before, or from the piece.
+#[tactic(auto, using(crate::proofs::PlaceLaws::head_old, crate::proofs::PlaceLaws::head_got), unfolding(crate::specs::Pieces::head_byte))]
+fn head_byte(k: usize, past: usize, old: u8, piece: &[u8]) -> u8
+    ensures { result ≡ head_byte k past old piece.now }
 {
-    Place {
-        past: 0,
-        tag: 0,
-        high: 0,
-        low: 0,
-        skipped,
+    if k < past {
+        return old;
+    }
+    piece.get(k - past).copied().unwrap_or(old)
+}
+
+// The count of skipped fields stops at 4,294,967,295.
+fn count(found: Result<Found, RecordError>, skipped: u32) -> u32
+    ensures { result ≡ counted found skipped }
+{
+    match found {
+        Ok(Found::Skipped) => skipped.saturating_add(1),
+        _ => skipped,
     }
 }
 
@@ -48,174 +173,7 @@ fn between(skipped: u32) -> Place
 pub fn begin() -> Place
     ensures { result ≡ fresh 0 }
 {
-    between(0)
-}
-
-fn length_of(p: Place) -> u16
-    ensures { result ≡ length_of p }
-{
-    p.high as u16 * 256 + p.low as u16
-}
-
-fn size_of(p: Place) -> usize
-    ensures { Below (size_of p) 65539 result }
-{
-    3 + length_of(p) as usize
-}
-
-// Reading never stops at the end of a field. A place that says so counts as one between two fields.
-fn sound(p: Place) -> Place
-    ensures { result ≡ sound_of p }
-{
-    if p.past < size_of(p) {
-        p
-    } else {
-        between(p.skipped)
-    }
-}
-
-// Byte k of tag and length: as it was read before, or from the piece.
-fn head_byte(k: usize, past: usize, old: u8, piece: &[u8]) -> u8
-    ensures { result ≡ head_byte k past old piece.now }
-{
-    if k < past {
-        return old;
-    }
-    let i = k - past;
-    if piece.len() <= i {
-        return old;
-    }
-    piece[i]
-}
-
-#[tactic(auto, unfolding(crate::specs::Pieces::headed_of))]
-fn headed(p: Place, piece: &[u8]) -> Place
-    ensures { result ≡ headed_of p piece.now }
-{
-    let past = p.past;
-    Place {
-        past,
-        tag: head_byte(0, past, p.tag, piece),
-        high: head_byte(1, past, p.high, piece),
-        low: head_byte(2, past, p.low, piece),
-        skipped: p.skipped,
-    }
-}
-
-// How many of n bytes belong to the field under way.
-fn used(p: Place, n: usize) -> usize
-    ensures { result ≡ used_of p n }
-{
-    let size = size_of(p);
-    let past = p.past;
-    if size <= past {
-        return 0;
-    }
-    let more = size - past;
-    if n < more { n } else { more }
-}
-
-// How much of tag and length is not yet read, and how much of the body is.
-fn head_left(past: usize) -> usize
-    ensures { result ≡ 3 - past }
-{
-    if past < 3 { 3 - past } else { 0 }
-}
-
-fn body_read(past: usize) -> usize
-    ensures { result ≡ past - 3 }
-{
-    if past < 3 { 0 } else { past - 3 }
-}
-
-// The bytes of the piece that belong to the body of the field under way.
-fn part(p: Place, piece: &[u8]) -> &[u8]
-    ensures { result.now ≡ part_of p piece.now }
-{
-    let n = used(p, piece.len());
-    let head = head_left(p.past);
-    if n <= head {
-        return &piece[..0];
-    }
-    &piece[head..n]
-}
-
-// They go after those that were kept before.
-fn keep(p: Place, buffer: &mut [u8], piece: &[u8])
-    ensures { buffer.new ≡ buffer_of p buffer.old piece.now }
-{
-    if crate::field::kept(p.tag, length_of(p)) {
-        codec::number::put_bytes(buffer, body_read(p.past), part(p, piece));
-    }
-}
-
-#[tactic(auto, unfolding(crate::specs::Pieces::found_of))]
-fn found(p: Place, buffer: &[u8]) -> Found
-    ensures { result ≡ found_of p buffer.now }
-{
-    let n = length_of(p);
-    crate::field::judge(p.tag, n, codec::field::part_at(buffer, 0, n as usize))
-}
-
-// A count of fields with one more, which stops at 4,294,967,295.
-pub fn one_more(skipped: u32) -> u32
-    ensures { result ≡ min (skipped + 1) 4294967295 }
-{
-    if skipped < 4294967295 {
-        skipped + 1
-    } else {
-        4294967295
-    }
-}
-
-fn count(found: Found, skipped: u32) -> u32
-    ensures { result ≡ counted found skipped }
-{
-    match found {
-        Found::Frame(_) => skipped,
-        Found::Note => skipped,
-        Found::Start(_) => skipped,
-        Found::Refused(_) => skipped,
-        Found::Skipped => one_more(skipped),
-    }
-}
-
-fn done(p: Place, n: usize, found: Found) -> Step
-    ensures { result ≡ done_of p n found }
-{
-    Step {
-        place: between(count(found, p.skipped)),
-        used: n,
-        seen: Seen::Field(Field {
-            tag: p.tag,
-            length: length_of(p),
-            found,
-        }),
-    }
-}
-
-fn ends(p: Place, n: usize, buffer: &[u8]) -> Step
-    ensures { result ≡ ends_of p n buffer.now }
-{
-    let size = size_of(p);
-    let past = p.past;
-    if size <= past {
-        return done(p, n, found(p, buffer));
-    }
-    if size - past <= n {
-        return done(p, n, found(p, buffer));
-    }
-    Step {
-        place: Place {
-            past: past + n,
-            tag: p.tag,
-            high: p.high,
-            low: p.low,
-            skipped: p.skipped,
-        },
-        used: n,
-        seen: Seen::More,
-    }
+    Place::between(0)
 }
 
 #[tactic(auto, unfolding(crate::specs::Pieces::next_of, crate::specs::Pieces::kept_of, crate::specs::Pieces::place_of))]
@@ -223,9 +181,9 @@ fn advance(place: Place, buffer: &mut [u8], piece: &[u8]) -> Step
     ensures value { result ≡ next_of place buffer.old piece.now }
     ensures buffer_after { buffer.new ≡ kept_of place buffer.old piece.now }
 {
-    let p = headed(sound(place), piece);
-    keep(p, buffer, piece);
-    ends(p, used(p, piece.len()), buffer)
+    let p = place.sound().headed(piece);
+    p.keep(buffer, piece);
+    p.ends(p.used(piece.len()), buffer)
 }
 
 // Goes on with the rest of a piece, as far as the end of one field or of the piece. After a finding the body
@@ -241,14 +199,17 @@ pub fn next(place: Place, buffer: &mut [u8; 1472], piece: &[u8]) -> Step
 pub fn inside(place: Place) -> usize
     ensures { result ≡ (sound_of place).past }
 {
-    let p = sound(place);
-    p.past
+    place.sound().past
 }
 
-// The answer at the end of the input: 0, or 40 inside a field.
-pub fn finish(place: Place) -> u8
+// At the end of the input: it must not be inside a field.
+#[tactic(auto, using(crate::proofs::PlaceLaws::finish_none, crate::proofs::PlaceLaws::finish_inside))]
+pub fn finish(place: Place) -> Result<(), RecordError>
     ensures { result ≡ finish_of place }
 {
-    let p = sound(place);
-    if p.past == 0 { 0 } else { 40 }
+    if inside(place) == 0 {
+        Ok(())
+    } else {
+        Err(RecordError::Cut)
+    }
 }
