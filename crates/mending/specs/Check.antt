@@ -1,38 +1,24 @@
--- The lines of a checker (docs/SCRIPT.md, "The check"). Numbers below are the characters of the names, 32 a space and 10 a line feed.
+-- The lines of a checker (docs/SCRIPT.md, "The check"). Numbers below are the characters of the names.
 use Rattle.std.specs.Prelude.{ℕ, ◌+◌, min, Bool, not, List, [], ◌∷◌, ◌++◌, length, eqb}
 use Rattle.codec.specs.Choice.{pick, bit}
-use Rattle.text.specs.Put.{decimal_of}
+use Rattle.text.specs.Draft.{row_of}
 use Rattle.recording.specs.File.{Finding, left_of, findings_of, skips}
 use Rattle.recording.specs.Trip.{good}
 use Rattle.recording.specs.declared.field.Found.{Found}
 use Rattle.mending.specs.Copy.{stays}
 use Rattle.mending.specs.declared.check.Tally.{Tally}
 
--- a number behind a space
-unfoldable pub number_text : ℕ → List ℕ
-number_text v = 32 ∷ decimal_of v
-
--- a name and two numbers, a name and three
-unfoldable pub two_text : List ℕ → ℕ → ℕ → List ℕ
-two_text name a b = name ++ number_text a ++ number_text b
-
-unfoldable pub pair_line : List ℕ → ℕ → ℕ → List ℕ
-pair_line name a b = two_text name a b ++ (10 ∷ [])
-
-unfoldable pub triple_line : List ℕ → ℕ → ℕ → ℕ → List ℕ
-triple_line name a b c = two_text name a b ++ number_text c ++ (10 ∷ [])
-
 -- "good TAG LENGTH"
 abbrev pub good_line : ℕ → ℕ → List ℕ
-good_line tag n = pair_line (103 ∷ 111 ∷ 111 ∷ 100 ∷ []) tag n
+good_line tag n = row_of (103 ∷ 111 ∷ 111 ∷ 100 ∷ []) (tag ∷ n ∷ [])
 
 -- "bad TAG ANSWER LENGTH"
 abbrev pub bad_line : ℕ → ℕ → ℕ → List ℕ
-bad_line tag answer n = triple_line (98 ∷ 97 ∷ 100 ∷ []) tag answer n
+bad_line tag answer n = row_of (98 ∷ 97 ∷ 100 ∷ []) (tag ∷ answer ∷ n ∷ [])
 
 -- "unknown TAG LENGTH"
 abbrev pub unknown_line : ℕ → ℕ → List ℕ
-unknown_line tag n = pair_line (117 ∷ 110 ∷ 107 ∷ 110 ∷ 111 ∷ 119 ∷ 110 ∷ []) tag n
+unknown_line tag n = row_of (117 ∷ 110 ∷ 107 ∷ 110 ∷ 111 ∷ 119 ∷ 110 ∷ []) (tag ∷ n ∷ [])
 
 -- of a field, by what it is found to be
 abbrev pub found_line : ℕ → ℕ → Found → List ℕ
@@ -47,11 +33,11 @@ finding_line f = found_line f.tag f.size f.found
 
 -- "rest 40 BYTES", of the bytes that are left after the complete fields; no line where there are none
 unfoldable pub rest_text : ℕ → List ℕ
-rest_text n = pick (eqb n 0) [] (pair_line (114 ∷ 101 ∷ 115 ∷ 116 ∷ []) 40 n)
+rest_text n = pick (eqb n 0) [] (row_of (114 ∷ 101 ∷ 115 ∷ 116 ∷ []) (40 ∷ n ∷ []))
 
 -- "fields GOOD BAD UNKNOWN"
 abbrev pub fields_line : Tally → ℕ → List ℕ
-fields_line t unknown = triple_line (102 ∷ 105 ∷ 101 ∷ 108 ∷ 100 ∷ 115 ∷ []) t.good t.bad unknown
+fields_line t unknown = row_of (102 ∷ 105 ∷ 101 ∷ 108 ∷ 100 ∷ 115 ∷ []) (t.good ∷ t.bad ∷ unknown ∷ [])
 
 -- how many findings there are of a sort
 abbrev pub count_of : (Found → Bool) → List Finding → ℕ

@@ -7,6 +7,10 @@ ghost use Rattle.mending.specs.Check.{found_line, good_line, rest_text, fields_l
 use codec::number::Put;
 use recording::field::{Field, Found};
 use recording::pieces::Place;
+use text::draft::Draft;
+
+// Room for any line: a name of at most 8 bytes and three numbers are 72.
+type Line = Draft<128>;
 
 // How many fields were good and how many bad. The unknown ones are counted by reading.
 #[derive(Drop)]
@@ -37,7 +41,7 @@ pub fn count(tally: Tally, found: Found) -> Tally
 fn good(out: &mut [u8], at: usize, field: Field) -> Put
     ensures { Wrote true out.old at (good_line field.tag field.length) out.new result }
 {
-    crate::word::pair(out, at, b"good", field.tag as u64, field.length as u64)
+    Line::row(b"good", &[field.tag as u64, field.length as u64]).put(out, at)
 }
 
 // The line of a field that is complete. An output that is too short for it is left as it was.
@@ -52,9 +56,9 @@ pub fn line(out: &mut [u8], at: usize, field: Field) -> Put
         Found::Note => good(out, at, field),
         Found::Start(_) => good(out, at, field),
         Found::Refused(answer) => {
-            crate::word::triple(out, at, b"bad", tag, answer as u64, length)
+            Line::row(b"bad", &[tag, answer as u64, length]).put(out, at)
         }
-        Found::Skipped => crate::word::pair(out, at, b"unknown", tag, length),
+        Found::Skipped => Line::row(b"unknown", &[tag, length]).put(out, at),
     }
 }
 
@@ -67,19 +71,16 @@ pub fn rest(out: &mut [u8], at: usize, place: Place) -> Put
     if n == 0 {
         return codec::number::put_bytes(out, at, b"");
     }
-    crate::word::pair(out, at, b"rest", 40, n as u64)
+    Line::row(b"rest", &[40, n as u64]).put(out, at)
 }
 
 // The last line. How many fields were unknown the place tells.
 pub fn fields(out: &mut [u8], at: usize, tally: Tally, place: Place) -> Put
     ensures { Wrote true out.old at (fields_line tally place.skipped) out.new result }
 {
-    crate::word::triple(
-        out,
-        at,
+    Line::row(
         b"fields",
-        tally.good as u64,
-        tally.bad as u64,
-        place.skipped as u64,
+        &[tally.good as u64, tally.bad as u64, place.skipped as u64],
     )
+    .put(out, at)
 }
