@@ -32,12 +32,13 @@ use Rattle.tape.specs.Sample.{position_of}
 use Rattle.tape.specs.declared.sample.Placed.{Placed}
 use Rattle.text.specs.Put.{hexes}
 use Rattle.text.proofs.PutLaws.{decimal_length, hexes-length}
+use Rattle.text.proofs.DraftLaws.{row_most}
 use Rattle.listing.proofs.FixedLaws.{fixed_length}
 use Rattle.listing.proofs.SpreadLaws.{pairs-length}
 use Rattle.listing.proofs.EscapeLaws.{note_length}
 use Rattle.listing.proofs.LinesLaws.{lines_past, lines_bad, lines_item}
 use Rattle.tape.specs.declared.microphone.Microphone.{Microphone}
-use Rattle.listing.specs.Line.{field_text, hex_text, time_text, sign_text, signed_text, placed_text, position_text, kind_text, is_fd, bus_text, id_digits, can_text, channels_text, flexray_text, error_text, ident_text, state_text, load_text, bytes_text, place_text, shown_text, front_text, item_line, frame_line, start_line, pair_line, refused_line, skipped_line, note_line, plain, escape_of, spread}
+use Rattle.listing.specs.Line.{field_text, hex_text, time_text, sign_text, signed_text, placed_text, position_text, kind_text, is_fd, bus_text, id_digits, can_text, channels_text, flexray_text, error_text, ident_text, state_text, load_text, bytes_text, place_text, shown_text, front_text, item_line, frame_line, start_line, refused_line, skipped_line, note_line, plain, escape_of, spread}
 use Rattle.listing.specs.Field.{Text, item_lines, found_lines, field_lines, with, with_all, text_of, whole_of}
 
 text_as : {b b' : List ℕ} {a a' : ℕ} → b ≡ b' → a ≡ a' → ◌≡◌ {A = Text} (record { bytes = b; at = a }) (record { bytes = b'; at = a' })
@@ -210,13 +211,6 @@ start_most : (t : Time) → length (start_line t) ≤ 37
 unfolding start_line
 start_most t = let a = time_most t in simp length-append (omega arith)
 
-pair_most : (name : List ℕ) (a b : ℕ) → length (pair_line name a b) ≤ length name + 43
-unfolding pair_line
-pair_most name a b =
-    let d = field_most a in
-    let e = field_most b in
-    simp length-append (omega arith)
-
 escape_most : (b : ℕ) → length (escape_of b) ≤ 4
 unfolding escape_of
 escape_most b =
@@ -242,10 +236,10 @@ module _ (m : Microphone) (tag n : ℕ) (body : List ℕ) (b : Bytes body) (h : 
       rw (append-nil (note_line body)) (omega arith)
   found_most (Found.Start t) = let a = start_most t in rw (append-nil (start_line t)) (omega arith)
   found_most (Found.Refused answer) =
-      let a = pair_most (114 ∷ 101 ∷ 102 ∷ 117 ∷ 115 ∷ 101 ∷ 100 ∷ []) tag answer in
+      let a = row_most 8 2 (114 ∷ 101 ∷ 102 ∷ 117 ∷ 115 ∷ 101 ∷ 100 ∷ []) (tag ∷ answer ∷ []) (omega arith) (omega arith) in
       rw (append-nil (refused_line tag answer)) (omega arith)
   found_most Found.Skipped =
-      let a = pair_most (115 ∷ 107 ∷ 105 ∷ 112 ∷ 112 ∷ 101 ∷ 100 ∷ []) tag n in
+      let a = row_most 8 2 (115 ∷ 107 ∷ 105 ∷ 112 ∷ 112 ∷ 101 ∷ 100 ∷ []) (tag ∷ n ∷ []) (omega arith) (omega arith) in
       rw (append-nil (skipped_line tag n)) (omega arith)
 
 -- a field of a recording, its body in a buffer of 1,472 bytes

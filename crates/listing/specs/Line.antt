@@ -11,6 +11,7 @@ use Rattle.codec.specs.declared.item.Item.{Item}
 use Rattle.tape.specs.Sample.{position_of}
 use Rattle.tape.specs.declared.sample.Placed.{Placed}
 use Rattle.text.specs.Put.{decimal_of, hexes}
+use Rattle.text.specs.Draft.{row_of}
 use Rattle.tape.specs.declared.microphone.Microphone.{Microphone}
 
 -- '0' to '9' and 'A' to 'F'
@@ -144,21 +145,17 @@ frame_line h = (102 ∷ 114 ∷ 97 ∷ 109 ∷ 101 ∷ []) ++ field_text h.seque
 unfoldable pub start_line : Time → List ℕ
 start_line t = (115 ∷ 116 ∷ 97 ∷ 114 ∷ 116 ∷ []) ++ time_text t ++ (10 ∷ [])
 
--- a name and two numbers
-unfoldable pub pair_line : List ℕ → ℕ → ℕ → List ℕ
-pair_line name a b = name ++ field_text a ++ field_text b ++ (10 ∷ [])
-
 -- "refused TAG ANSWER"
 abbrev pub refused_line : ℕ → ℕ → List ℕ
-refused_line tag answer = pair_line (114 ∷ 101 ∷ 102 ∷ 117 ∷ 115 ∷ 101 ∷ 100 ∷ []) tag answer
+refused_line tag answer = row_of (114 ∷ 101 ∷ 102 ∷ 117 ∷ 115 ∷ 101 ∷ 100 ∷ []) (tag ∷ answer ∷ [])
 
 -- "skipped TAG LENGTH"
 abbrev pub skipped_line : ℕ → ℕ → List ℕ
-skipped_line tag n = pair_line (115 ∷ 107 ∷ 105 ∷ 112 ∷ 112 ∷ 101 ∷ 100 ∷ []) tag n
+skipped_line tag n = row_of (115 ∷ 107 ∷ 105 ∷ 112 ∷ 112 ∷ 101 ∷ 100 ∷ []) (tag ∷ n ∷ [])
 
 -- "end ANSWER SKIPPED"
 abbrev pub end_line : ℕ → ℕ → List ℕ
-end_line answer skipped = pair_line (101 ∷ 110 ∷ 100 ∷ []) answer skipped
+end_line answer skipped = row_of (101 ∷ 110 ∷ 100 ∷ []) (answer ∷ skipped ∷ [])
 
 -- printable ASCII but the backslash (92)
 unfoldable pub plain : ℕ → Bool

@@ -21,16 +21,25 @@ fn width(b: u8) -> usize
     if plain(b) { 1 } else { 4 }
 }
 
+// A text behind what was laid before it, where there is room.
+pub(crate) fn lay(out: &mut [u8], at: usize, s: &[u8]) -> usize
+    requires { at + length s.now ≤ length out.old }
+    ensures { Short (length s.now) out.old at s.now out.new result }
+{
+    codec::number::put_bytes(out, at, s);
+    at + s.len()
+}
+
 fn lay_byte(out: &mut [u8], at: usize, b: u8) -> usize
     requires { at + length (escape_of b) ≤ length out.old }
     ensures { Short 4 out.old at (escape_of b) out.new result }
 {
     let one = [b];
     if plain(b) {
-        return crate::word::lay(out, at, &one);
+        return lay(out, at, &one);
     }
     // One byte is two digits.
-    let a = crate::word::lay(out, at, b"\\x");
+    let a = lay(out, at, b"\\x");
     text::put::hex(out, a, &one);
     a + 2
 }
@@ -41,14 +50,12 @@ fn fits(src: &[u8], room: usize) -> bool
     ensures { result ≡ note_fits src.now room }
 {
     let mut left = room;
-    let mut i = 0;
-    while i < src.len() {
-        let n = width(src[i]);
+    for &b in src {
+        let n = width(b);
         if left < n {
             return false;
         }
         left -= n;
-        i += 1;
     }
     true
 }
@@ -57,11 +64,9 @@ fn lay_bytes(out: &mut [u8], at: usize, src: &[u8]) -> usize
     requires { at + length (spread escape_of src.now) ≤ length out.old }
     ensures { Short (length (spread escape_of src.now)) out.old at (spread escape_of src.now) out.new result }
 {
-    let mut i = 0;
     let mut k = at;
-    while i < src.len() {
-        k = lay_byte(out, k, src[i]);
-        i += 1;
+    for &b in src {
+        k = lay_byte(out, k, b);
     }
     k
 }
@@ -81,7 +86,7 @@ pub fn note(out: &mut [u8], at: usize, text: &[u8]) -> Put
     if !fits(text, most - 6 - at) {
         return Put::Nothing;
     }
-    let a = crate::word::lay(out, at, b"note ");
+    let a = lay(out, at, b"note ");
     let b = lay_bytes(out, a, text);
-    Put::Next(crate::word::lay(out, b, b"\n"))
+    Put::Next(lay(out, b, b"\n"))
 }

@@ -82,6 +82,10 @@ adds_as {j} {k} {l} {xs} {ys} {l'} a e h =
     let m = b.most in
     record { is = b.is; most = omega arith; size = b.size }
 
+-- a line that was empty has no more
+pub adds_all : {k : ℕ} {l bs l' : List ℕ} → Adds k l bs l' → l ≡ [] → l' ≡ bs
+adds_all {bs = bs} a e = a.is ∙ ap (λ (x : List ℕ). x ++ bs) e
+
 -- the first of the numbers that are left
 pub numbered_next : (n : ℕ) (l m m' vs : List ℕ) (i v : ℕ) → i < length vs → v ≡ get_or vs i 0 → m ≡ added n l (32 ∷ [])
     → m' ≡ added n m (decimal_of v) → numbered n m' (drop (i + 1) vs) ≡ numbered n l (drop i vs)
