@@ -17,14 +17,10 @@ fn lay_hex(out: &mut [u8], at: usize, src: &[u8])
     requires { at + 2 * length src.now ≤ length out.old }
     ensures { out.new ≡ over out.old at (hexes src.now) }
 {
-    let mut i = 0;
-    let mut k = at;
-    while i < src.len() {
-        let b = src[i];
-        out[k] = letter(b >> 4);
-        out[k + 1] = letter(b & 15);
-        i += 1;
-        k += 2;
+    for (i, b) in src.iter().enumerate() {
+        let k = at + 2 * i;
+        out[k] = letter(*b >> 4);
+        out[k + 1] = letter(*b & 15);
     }
 }
 
@@ -52,11 +48,9 @@ fn spell(text: &mut [u8], v: u64) -> usize
     ensures { Ends text.new (decimal_of v) result }
 {
     let mut x = v;
-    let mut i = 20;
-    while 0 < i {
-        i -= 1;
+    for i in (0..20).rev() {
         text[i] = (x % 10 + 48) as u8;
-        x = x / 10;
+        x /= 10;
         if x == 0 {
             return i;
         }
