@@ -6,31 +6,24 @@ ghost use Rattle.codec.specs.Ident.{ident_bytes, ident_bit, ident_ok};
 ghost use Rattle.codec.specs.Item.{state_bytes, state_bit, lin_zero, shown_ok, state_ok, set_ok, set_for, set_of, load_ok, load_bytes, load_length, flags_of, encode, item_ok, item_length};
 
 use crate::ident::{Ident, Kind};
-use crate::number::Put;
 use crate::time::Ticks;
-
-// The state byte that an item shows.
-#[derive(Clone, Copy)]
-pub enum State {
-    Byte(u8),
-    Absent,
-}
 
 #[derive(Clone, Copy)]
 pub struct Item {
     pub offset: Ticks,
     pub network: u8,
-    pub state: State,
+    // the state byte that the item shows
+    pub state: Option<u8>,
     pub ident: Ident,
     pub carries: bool,
 }
 
-fn state_bit(state: State) -> u8
+fn state_bit(state: Option<u8>) -> u8
     ensures { Below (state_bit state) 2 result }
 {
     match state {
-        State::Byte(_) => 1,
-        State::Absent => 0,
+        Some(_) => 1,
+        None => 0,
     }
 }
 
@@ -40,18 +33,14 @@ fn ident_bit(ident: Ident) -> u8
     match ident {
         Ident::Can(_) => 1,
         Ident::Lin(_) => 1,
-        Ident::FlexRay {
-            channels: _,
-            slot: _,
-            cycle: _,
-        } => 1,
+        Ident::FlexRay { .. } => 1,
         Ident::FlexRayError(_) => 1,
         Ident::Bare(_) => 0,
     }
 }
 
 // Which of state, id and payload are present, as bits 2, 1 and 0.
-fn set_of(state: State, ident: Ident, carries: bool) -> u8
+fn set_of(state: Option<u8>, ident: Ident, carries: bool) -> u8
     ensures { Below (set_of state ident carries) 8 result }
 {
     state_bit(state) << 2 | ident_bit(ident) << 1 | carries as u8
@@ -71,11 +60,7 @@ fn set_for(ident: Ident, set: u8) -> bool
     match ident {
         Ident::Can(_) => known,
         Ident::Lin(_) => known,
-        Ident::FlexRay {
-            channels: _,
-            slot: _,
-            cycle: _,
-        } => known,
+        Ident::FlexRay { .. } => known,
         Ident::FlexRayError(_) => set == 6,
         Ident::Bare(_) => known,
     }
@@ -99,12 +84,12 @@ fn shown_ok(kind: Kind, b: u8) -> bool
     }
 }
 
-pub fn state_ok(kind: Kind, state: State) -> bool
+pub fn state_ok(kind: Kind, state: Option<u8>) -> bool
     ensures { result ≡ state_ok kind state }
 {
     match state {
-        State::Byte(b) => shown_ok(kind, b),
-        State::Absent => true,
+        Some(b) => shown_ok(kind, b),
+        None => true,
     }
 }
 
@@ -129,12 +114,12 @@ pub fn item_ok(item: Item, n: usize) -> bool
     set & bits & id & load
 }
 
-fn state_len(state: State) -> usize
+fn state_len(state: Option<u8>) -> usize
     ensures { Sized (state_bytes state) 1 result }
 {
     match state {
-        State::Byte(_) => 1,
-        State::Absent => 0,
+        Some(_) => 1,
+        None => 0,
     }
 }
 
@@ -144,11 +129,7 @@ fn ident_len(ident: Ident) -> usize
     match ident {
         Ident::Can(_) => 4,
         Ident::Lin(_) => 1,
-        Ident::FlexRay {
-            channels: _,
-            slot: _,
-            cycle: _,
-        } => 3,
+        Ident::FlexRay { .. } => 3,
         Ident::FlexRayError(_) => 3,
         Ident::Bare(_) => 0,
     }
@@ -176,7 +157,7 @@ fn flags_of(item: Item) -> u8
     let state = item.state;
     let ident = item.ident;
     let set = set_of(state, ident, item.carries);
-    let kind = crate::ident::network_type(crate::ident::kind_of(ident));
+    let kind = u8::from(crate::ident::kind_of(ident));
     set << 5 | kind
 }
 
@@ -192,16 +173,16 @@ fn lay_front(out: &mut [u8], at: usize, offset: u16, flags: u8, network: u8) -> 
     at + 4
 }
 
-fn lay_state(out: &mut [u8], at: usize, state: State) -> usize
+fn lay_state(out: &mut [u8], at: usize, state: Option<u8>) -> usize
     requires { at + length (state_bytes state) ≤ length out.old }
     ensures { Laid out.old at (state_bytes state) out.new result }
 {
     match state {
-        State::Byte(b) => {
+        Some(b) => {
             out[at] = b;
             at + 1
         }
-        State::Absent => at,
+        None => at,
     }
 }
 
@@ -269,19 +250,19 @@ fn lay_load(out: &mut [u8], at: usize, carries: bool, payload: &[u8]) -> usize
     at + 1 + n
 }
 
-pub fn write_item(out: &mut [u8], at: usize, item: Item, payload: &[u8]) -> Put
+pub fn write_item(out: &mut [u8], at: usize, item: Item, payload: &[u8]) -> Option<usize>
     ensures { Wrote (item_ok item (length payload.now)) out.old at (encode item payload.now) out.new result }
 {
     let n = payload.len();
     if !item_ok(item, n) {
-        return Put::Nothing;
+        return None;
     }
     let size = item_len(item, n as u8);
     if out.len() < size {
-        return Put::Nothing;
+        return None;
     }
     if out.len() - size < at {
-        return Put::Nothing;
+        return None;
     }
     let state = item.state;
     let ident = item.ident;
@@ -291,5 +272,5 @@ pub fn write_item(out: &mut [u8], at: usize, item: Item, payload: &[u8]) -> Put
     let b = lay_state(out, a, state);
     let d = lay_ident(out, b, ident);
     let e = lay_load(out, d, item.carries, payload);
-    Put::Next(e)
+    Some(e)
 }
