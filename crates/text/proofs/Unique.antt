@@ -8,13 +8,12 @@ use Rattle.text.proofs.line.find.Reads as find
 use Rattle.text.proofs.line.kept.Reads as kept
 use Rattle.text.proofs.line.words.Reads as words
 use Rattle.text.proofs.line.word.Reads as word
-use Rattle.text.proofs.line.same.Reads as same
 use Rattle.text.proofs.part.front.Reads as front
 use Rattle.text.proofs.put.hex.Reads as hex
 use Rattle.text.proofs.put.decimal.Reads as decimal
 
 pub value_unique : (κs : _) (a : _) (r r' : _) (x x' : _) → value.Post κs a r x → value.Post κs a r' x' → r ≡ r'
-value_unique κs a r r' x x' p q = p.is ∙ sym q.is
+value_unique κs a r r' x x' p q = p ∙ sym q
 
 pub number_unique : (κs : _) (a : _) (r r' : _) (x x' : _) → number.Post κs a r x → number.Post κs a r' x' → r ≡ r'
 number_unique κs a r r' x x' p q = p ∙ sym q
@@ -34,9 +33,6 @@ words_unique κs a r r' x x' p q = p ∙ sym q
 
 pub word_unique : (κs : _) (a : _) (r r' : _) (x x' : _) → word.Post κs a r x → word.Post κs a r' x' → r.now ≡ r'.now
 word_unique κs a r r' x x' p q = p ∙ sym q
-
-pub same_unique : (κs : _) (a : _) (r r' : _) (x x' : _) → same.Post κs a r x → same.Post κs a r' x' → r ≡ r'
-same_unique κs a r r' x x' p q = p ∙ sym q
 
 pub front_unique : (κs : _) (a : _) (r r' : _) (x x' : _) → front.Post κs a r x → front.Post κs a r' x' → r.now ≡ r'.now
 front_unique κs a r r' x x' p q = p ∙ sym q
