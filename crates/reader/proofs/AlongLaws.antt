@@ -8,13 +8,13 @@ use native.Mathlib.Omega.{arith}
 use lib.ListN.{length}
 use lib.Dec.{eqb}
 use borrow.Author.Tests.{eq-eqb, ne_eqb}
+use Rattle.std.specs.Prelude.{Ok, Err}
 use Rattle.codec.specs.Field.{read_item, bytes_at}
 use Rattle.codec.specs.Layout.{Entry}
 use Rattle.codec.specs.declared.item.Item.{Item}
 use Rattle.codec.specs.declared.refusal.Refusal.{Refusal}
 use Rattle.codec.specs.declared.field.ItemRead.{ItemRead}
 use Rattle.codec.proofs.Inverse.{read_room}
-use Rattle.reader.specs.declared.frame.Verdict.{Verdict}
 use Rattle.reader.specs.Frame.{along, walk_of, starts_of, items_of}
 
 module _ {A : Type 0} (done : A) (bad : Refusal → A) (more : ℕ → Item → ℕ → ℕ → A → A) (s : List ℕ) where
@@ -54,17 +54,17 @@ module _ {A : Type 0} (done : A) (bad : Refusal → A) (more : ℕ → Item → 
       rw e (simp (ne_eqb at (length s) n, q))
 
 module _ (s : List ℕ) where
-  pub walk_end : (at : ℕ) → at ≡ length s → walk_of s at ≡ Verdict.Clean
+  pub walk_end : (at : ℕ) → at ≡ length s → walk_of s at ≡ (Ok tt)
   unfolding walk_of
-  walk_end at h = at_end Verdict.Clean Verdict.Refused (λ place item start len rest. rest) s at h
+  walk_end at h = at_end (Ok tt) Err (λ place item start len rest. rest) s at h
 
   pub walk_item : (at : ℕ) {it : Item} {start len next : ℕ} → at < length s → read_item s at ≡ ItemRead.Got it start len next → walk_of s at ≡ walk_of s next
   unfolding walk_of
-  walk_item at h q = at_item Verdict.Clean Verdict.Refused (λ place item start len rest. rest) s at h q
+  walk_item at h q = at_item (Ok tt) Err (λ place item start len rest. rest) s at h q
 
-  pub walk_bad : (at : ℕ) {why : Refusal} → at < length s → read_item s at ≡ ItemRead.Refused why → walk_of s at ≡ Verdict.Refused why
+  pub walk_bad : (at : ℕ) {why : Refusal} → at < length s → read_item s at ≡ ItemRead.Refused why → walk_of s at ≡ Err why
   unfolding walk_of
-  walk_bad at h q = at-bad Verdict.Clean Verdict.Refused (λ place item start len rest. rest) s at h q
+  walk_bad at h q = at-bad (Ok tt) Err (λ place item start len rest. rest) s at h q
 
   abbrev found : ℕ → ℕ → Item → ℕ → ℕ → Bool → Bool
   found place here item start len rest = eqb here place || rest

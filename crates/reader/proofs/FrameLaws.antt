@@ -8,6 +8,9 @@ use lib.ListN.{length, length-append}
 use lib.Seq.{paste-zero}
 use lib.Dec.{ltb}
 use borrow.Author.Tests.{ltb-true, ltb-false, lt-leb, le-leb}
+use Rattle.std.specs.Prelude.{Result, Ok, Err, ⊤}
+use Rattle.std.specs.Result.{is_ok, result_and}
+use Rattle.codec.specs.Choice.{bit}
 use Rattle.codec.specs.Time.{time_ok}
 use Rattle.codec.specs.Number.{Bytes, over, Wrote}
 use Rattle.codec.specs.Item.{encode, item_ok}
@@ -25,14 +28,12 @@ use Rattle.codec.proofs.HeaderLaws.{header_length}
 use Rattle.codec.proofs.Opened.{never}
 use Rattle.codec.proofs.Inverse.{read_room, item_forth, header_got, header_forth}
 use Rattle.reader.proofs.AlongLaws.{walk_item, walk_bad, items_end, items_item}
-use Rattle.reader.specs.declared.frame.Verdict.{Verdict}
-use Rattle.reader.specs.declared.frame.Judged.{Judged}
-use Rattle.reader.specs.declared.copy.Rewritten.{Rewritten}
-use Rattle.reader.specs.Frame.{walk_of, items_of, Clean, judged_by, open_header, judge_of, laid_out, rewrite_of, rewritten_of}
+use Rattle.reader.specs.declared.copy.RewriteError.{RewriteError}
+use Rattle.reader.specs.Frame.{walk_of, items_of, Clean, open_header, judge_of, laid_out, rewrite_of, rewritten_of}
 
 -- a clean walk meets no refusal
 pub not-bad : {G : Type 0} (s : List ℕ) (at : ℕ) {why : Refusal} → Clean s at → at < length s → read_item s at ≡ ItemRead.Refused why → G
-not-bad s at {why} c h q = let e : Verdict.Refused why ≡ Verdict.Clean = sym (walk_bad s at h q) ∙ c in never (cc)
+not-bad s at {why} c h q = let e : ◌≡◌ {A = Result ⊤ Refusal} (Err why) (Ok tt) = sym (walk_bad s at h q) ∙ c in never (cc)
 
 -- what holds at the end, and at an item where it holds at the next place, holds all along a clean walk
 module _ (s : List ℕ) (P : ℕ → Type 0) (end : (at : ℕ) → at ≡ length s → P at)
@@ -57,10 +58,10 @@ module _ (s : List ℕ) (P : ℕ → Type 0) (end : (at : ℕ) → at ≡ length
 pub record Left (s : List ℕ) (first : ℕ) (l out : List ℕ) (at : ℕ) : Type 0 where
   pub most : at ≤ length s
   pub len : length out ≡ length l
-  pub clean : walk_of s at ≡ Verdict.Clean
+  pub clean : walk_of s at ≡ (Ok tt)
   pub same : over l first (body (items_of s first)) ≡ over out at (body (items_of s at))
 
-pub left_first : (s : List ℕ) (first : ℕ) (l : List ℕ) → first ≤ length s → walk_of s first ≡ Verdict.Clean → Left s first l l first
+pub left_first : (s : List ℕ) (first : ℕ) (l : List ℕ) → first ≤ length s → walk_of s first ≡ (Ok tt) → Left s first l l first
 left_first s first l h c = record { most = h; len = refl; clean = c; same = refl }
 
 pub left_item : {s : List ℕ} {first : ℕ} {l out : List ℕ} {at : ℕ} {it : Item} {start len next : ℕ} (pl : List ℕ) {out' : List ℕ} {p : Put}
@@ -94,15 +95,23 @@ over_after l xs ys k e h =
     ap (λ (i : ℕ). over (over l 0 xs) i ys) (sym n) ∙ over-over l 0 xs ys (omega arith)
 
 -- what is judged to be a frame has its header and a clean walk, whatever walk it was
-pub judged_clean : (r : HeaderRead) (w : Verdict) {h : Header} → open_header r (λ x. judged_by x w) ≡ Judged.Frame h
-    → (r ≡ HeaderRead.Got h) × (w ≡ Verdict.Clean)
-judged_clean (HeaderRead.Got x) Verdict.Clean {h} e = let g : x ≡ h = cc in (ap HeaderRead.Got g, refl)
-judged_clean (HeaderRead.Got x) (Verdict.Refused why) e = never (cc)
+pub judged_clean : (r : HeaderRead) (w : Result ⊤ Refusal) {h : Header} → open_header r (λ x. result_and w (Ok x)) ≡ Ok h
+    → (r ≡ HeaderRead.Got h) × (w ≡ (Ok tt))
+judged_clean (HeaderRead.Got x) (Ok tt) {h} e = let g : x ≡ h = cc in (ap HeaderRead.Got g, refl)
+judged_clean (HeaderRead.Got x) (Err why) e = never (cc)
 judged_clean (HeaderRead.Refused why) w e = never (cc)
 
-pub accepted : (s : List ℕ) {h : Header} → judge_of s ≡ Judged.Frame h → (read_header s ≡ HeaderRead.Got h) × (walk_of s 14 ≡ Verdict.Clean)
+pub accepted : (s : List ℕ) {h : Header} → judge_of s ≡ Ok h → (read_header s ≡ HeaderRead.Got h) × (walk_of s 14 ≡ (Ok tt))
 unfolding judge_of
 accepted s e = judged_clean (read_header s) (walk_of s 14) e
+
+-- an accepted frame has a header at least
+pub is_ok_long : (s : List ℕ) → is_ok (judge_of s) ≡ true → 14 ≤ length s
+is_ok_long s e = go (judge_of s) refl e
+  where
+    go : (r : Result Header Refusal) → judge_of s ≡ r → is_ok r ≡ true → 14 ≤ length s
+    go (Ok h) q k = (header_got s (accepted s q).0).long
+    go (Err why) q k = never (ap bit k)
 
 -- the items of a clean walk are as long as the bytes they were read from
 module _ (s : List ℕ) (b : Bytes s) where
@@ -126,9 +135,9 @@ module _ (s : List ℕ) (b : Bytes s) where
   unfolding laid_out layout
   laid_is {h} e c = ap (λ (n : ℕ). header_bytes (record { sequence = h.sequence; time = h.time; length = n }) ++ body (items_of s 14)) (laid_length e c)
 
-  pub rewrite_done : {h : Header} {out m l : List ℕ} {p : Put} → judge_of s ≡ Judged.Frame h → length s ≤ length out
+  pub rewrite_done : {h : Header} {out m l : List ℕ} {p : Put} → judge_of s ≡ Ok h → length s ≤ length out
       → Wrote (time_ok h.time) out 0 (header_bytes h) m p → l ≡ over m 14 (body (items_of s 14))
-      → (Rewritten.Done (length s) ≡ rewrite_of s out) × (l ≡ rewritten_of s out)
+      → (Ok (length s) ≡ rewrite_of s out) × (l ≡ rewritten_of s out)
   unfolding rewrite_of rewritten_of
   rewrite_done {h} {out} {m} {l} {p} j f w d =
       let a = accepted s j in
@@ -143,12 +152,12 @@ module _ (s : List ℕ) (b : Bytes s) where
       = over_after out (header_bytes h) (body (items_of s 14)) 14 n (omega arith) in
       (simp (j, le-leb (length s) (length out) f), d ∙ rw k (o ∙ simp (j, le-leb (length s) (length out) f, laid_is e a.1)))
 
-pub rewrite_small : (s out : List ℕ) {h : Header} → judge_of s ≡ Judged.Frame h → length out < length s
-    → (Rewritten.Small ≡ rewrite_of s out) × (out ≡ rewritten_of s out)
+pub rewrite_small : (s out : List ℕ) {h : Header} → judge_of s ≡ Ok h → length out < length s
+    → (Err RewriteError.Small ≡ rewrite_of s out) × (out ≡ rewritten_of s out)
 unfolding rewrite_of rewritten_of
 rewrite_small s out j f = (simp (j, lt-leb (length s) (length out) f), simp (j, lt-leb (length s) (length out) f))
 
-pub rewrite_refused : (s out : List ℕ) {why : Refusal} → judge_of s ≡ Judged.Refused why
-    → (Rewritten.Refused why ≡ rewrite_of s out) × (out ≡ rewritten_of s out)
+pub rewrite_refused : (s out : List ℕ) {why : Refusal} → judge_of s ≡ Err why
+    → (Err (RewriteError.Frame why) ≡ rewrite_of s out) × (out ≡ rewritten_of s out)
 unfolding rewrite_of rewritten_of
 rewrite_refused s out j = (simp j, simp j)

@@ -1,3 +1,4 @@
+pub mod TimeLaws
 pub mod AlongLaws
 pub mod FrameLaws
 pub mod Theorems

@@ -7,6 +7,8 @@ use mathlib.Core.Bool.{Bool, true, false, ◌||◌}
 use mathlib.Core.List.{List, [], ◌∷◌}
 use lib.ListN.{length}
 use lib.Dec.{eqb}
+use Rattle.std.specs.Prelude.{Result, Ok, Err, ⊤}
+use Rattle.std.specs.Result.{result_and}
 use Rattle.codec.specs.Choice.{pick, bit}
 use Rattle.codec.specs.Number.{Bytes}
 use Rattle.codec.specs.Field.{read_item, bytes_at}
@@ -18,9 +20,7 @@ use Rattle.codec.specs.declared.field.ItemRead.{ItemRead}
 use Rattle.codec.specs.declared.header.Header.{Header}
 use Rattle.codec.proofs.Opened.{never}
 use Rattle.codec.proofs.Narrow.{narrow_item, is_error, Wider, item_wider, ErrorEntry, error_entry}
-use Rattle.reader.specs.declared.frame.Judged.{Judged}
-use Rattle.reader.specs.declared.frame.Verdict.{Verdict}
-use Rattle.reader.specs.Frame.{open_item, along, walk_of, items_of, judged_by, open_header, judge_of}
+use Rattle.reader.specs.Frame.{open_item, along, walk_of, items_of, open_header, judge_of}
 use Rattle.reader.proofs.FrameLaws.{judged_clean, accepted}
 use Rattle.reader.proofs.Theorems.{accepts}
 
@@ -32,10 +32,10 @@ narrow_along done bad more (suc n) s at =
     (open_item (narrow_item s at) (λ item start len next. more at item start len (narrow_along done bad more n s next)) bad)
 
 -- its reader: the header first, then the items from place 14
-unfoldable pub narrow_judge : List ℕ → Judged
+unfoldable pub narrow_judge : List ℕ → Result Header Refusal
 narrow_judge s =
     open_header (read_header s)
-    (λ h. judged_by h (narrow_along Verdict.Clean Verdict.Refused (λ place item start len rest. rest) (length s - 14) s 14))
+    (λ h. result_and (narrow_along (Ok (tt {0})) Err (λ place item start len rest. rest) (length s - 14) s 14) (Ok h))
 
 unfoldable pub narrow_items : List ℕ → List Entry
 narrow_items s =
@@ -55,39 +55,39 @@ module _ (s : List ℕ) where
   abbrev Rest : Type 0 → Type 0
   Rest A = ℕ → Item → ℕ → ℕ → A → A
 
-  abbrev skip : Rest Verdict
+  abbrev skip : Rest (Result ⊤ Refusal)
   skip place item start len rest = rest
 
   abbrev keep : Rest (List Entry)
   keep here item start len rest = record { item = item; payload = bytes_at s start len } ∷ rest
 
-  abbrev walk : ℕ → ℕ → Verdict
-  walk n at = along Verdict.Clean Verdict.Refused skip n s at
+  abbrev walk : ℕ → ℕ → Result ⊤ Refusal
+  walk n at = along (Ok tt) Err skip n s at
 
   abbrev items : ℕ → ℕ → List Entry
   items n at = along [] (λ why. []) keep n s at
 
-  abbrev narrow : ℕ → ℕ → Verdict
-  narrow n at = narrow_along Verdict.Clean Verdict.Refused skip n s at
+  abbrev narrow : ℕ → ℕ → Result ⊤ Refusal
+  narrow n at = narrow_along (Ok tt) Err skip n s at
 
   abbrev narrows : ℕ → ℕ → List Entry
   narrows n at = narrow_along [] (λ why. []) keep n s at
 
   -- from a place on: what the narrow layout has is read the same
   record Same (n at : ℕ) : Type 0 where
-    pub clean : walk n at ≡ Verdict.Clean
+    pub clean : walk n at ≡ (Ok tt)
     pub same : items n at ≡ narrows n at
     pub none : any_error (items n at) ≡ false
 
-  stays : (n at : ℕ) → narrow n at ≡ Verdict.Clean → Same n at
+  stays : (n at : ℕ) → narrow n at ≡ (Ok tt) → Same n at
   unfolding along narrow_along
   stays zero at e = record { clean = refl; same = refl; none = refl }
   stays (suc n) at e = go (stays n) (eqb at (length s)) refl (narrow_item s at) refl (read_item s at) refl (item_wider s at)
     where
-      go : ((next : ℕ) → narrow n next ≡ Verdict.Clean → Same n next) → (t : Bool) → eqb at (length s) ≡ t
+      go : ((next : ℕ) → narrow n next ≡ (Ok tt) → Same n next) → (t : Bool) → eqb at (length s) ≡ t
           → (x : ItemRead) → narrow_item s at ≡ x → (y : ItemRead) → read_item s at ≡ y → Wider x y → Same (suc n) at
       go on true q x p y r w = record { clean = simp q; same = simp q; none = simp q }
-      go on false q (ItemRead.Refused why) p y r w = let z : Verdict.Refused why ≡ Verdict.Clean = rw (q, p) at e in never (cc)
+      go on false q (ItemRead.Refused why) p y r w = let z : ◌≡◌ {A = Result ⊤ Refusal} (Err why) (Ok tt) = rw (q, p) at e in never (cc)
       go on false q (ItemRead.Got it start len next) p y r (inl (i, u)) =
           let k = on next (rw (q, p) at e) in
           let g : read_item s at ≡ ItemRead.Got it start len next = r ∙ sym i in
@@ -102,17 +102,17 @@ module _ (s : List ℕ) where
   -- and what is read besides, the narrow layout refuses with 25
   abbrev Adds : ℕ → ℕ → Type 0
   Adds n at =
-      (any_error (items n at) ≡ false → narrow n at ≡ Verdict.Clean) × (any_error (items n at) ≡ true → narrow n at ≡ Verdict.Refused Refusal.Reserved)
+      (any_error (items n at) ≡ false → narrow n at ≡ (Ok tt)) × (any_error (items n at) ≡ true → narrow n at ≡ Err Refusal.Reserved)
 
-  adds : (n at : ℕ) → walk n at ≡ Verdict.Clean → Adds n at
+  adds : (n at : ℕ) → walk n at ≡ (Ok tt) → Adds n at
   unfolding along narrow_along
   adds zero at e = (λ z. refl, λ z. never (ap bit z))
   adds (suc n) at e = go (adds n) (eqb at (length s)) refl (narrow_item s at) refl (read_item s at) refl (item_wider s at)
     where
-      go : ((next : ℕ) → walk n next ≡ Verdict.Clean → Adds n next) → (t : Bool) → eqb at (length s) ≡ t
+      go : ((next : ℕ) → walk n next ≡ (Ok tt) → Adds n next) → (t : Bool) → eqb at (length s) ≡ t
           → (x : ItemRead) → narrow_item s at ≡ x → (y : ItemRead) → read_item s at ≡ y → Wider x y → Adds (suc n) at
       go on true q x p y r w = (λ z. simp q, λ z. never (ap bit (rw q at z)))
-      go on false q x p (ItemRead.Refused why) r w = let z : Verdict.Refused why ≡ Verdict.Clean = rw (q, r) at e in never (cc)
+      go on false q x p (ItemRead.Refused why) r w = let z : ◌≡◌ {A = Result ⊤ Refusal} (Err why) (Ok tt) = rw (q, r) at e in never (cc)
       go on false q x p (ItemRead.Got it start len next) r (inl (i, u)) =
           let k = on next (rw (q, r) at e) in
           let g : narrow_item s at ≡ ItemRead.Got it start len next = p ∙ i in
@@ -122,8 +122,8 @@ module _ (s : List ℕ) where
           (λ z. never (sym (ap bit (rw (q, r, u) at z))), λ z. simp (q, g))
 
 -- a frame of the narrow layout is accepted with the same header and the same items, none of them an error without a frame
-pub stays_same : (s : List ℕ) {h : Header} → narrow_judge s ≡ Judged.Frame h
-    → (judge_of s ≡ Judged.Frame h) × (items_of s 14 ≡ narrow_items s) × (any_error (items_of s 14) ≡ false)
+pub stays_same : (s : List ℕ) {h : Header} → narrow_judge s ≡ Ok h
+    → (judge_of s ≡ Ok h) × (items_of s 14 ≡ narrow_items s) × (any_error (items_of s 14) ≡ false)
 unfolding narrow_judge narrow_items judge_of walk_of items_of
 stays_same s e =
     let a = judged_clean (read_header s) _ e in
@@ -131,12 +131,12 @@ stays_same s e =
     (rw (a.0, k.clean), k.same, k.none)
 
 -- an accepted frame without such an error is one of the narrow layout, with the same header and items
-pub none_new : (s : List ℕ) {h : Header} → judge_of s ≡ Judged.Frame h → any_error (items_of s 14) ≡ false
-    → (narrow_judge s ≡ Judged.Frame h) × (narrow_items s ≡ items_of s 14)
+pub none_new : (s : List ℕ) {h : Header} → judge_of s ≡ Ok h → any_error (items_of s 14) ≡ false
+    → (narrow_judge s ≡ Ok h) × (narrow_items s ≡ items_of s 14)
 unfolding narrow_judge walk_of items_of
 none_new s {h} j z =
     let a = accepted s j in
-    let j' : narrow_judge s ≡ Judged.Frame h = rw (a.0, (adds s (length s - 14) 14 a.1).0 z) in
+    let j' : narrow_judge s ≡ Ok h = rw (a.0, (adds s (length s - 14) 14 a.1).0 z) in
     (j', sym (stays_same s j').1)
 
 all_errors : (es : List Entry) → AllValid es → Errors es
@@ -144,8 +144,8 @@ all_errors [] v = tt
 all_errors (e ∷ es) v = (error_entry e v.0, all_errors es v.1)
 
 -- and an accepted frame with one is new: the narrow layout refuses it with 25, and each such item is what an error may be
-pub just_errors : (s : List ℕ) → Bytes s → {h : Header} → judge_of s ≡ Judged.Frame h → any_error (items_of s 14) ≡ true
-    → (narrow_judge s ≡ Judged.Refused Refusal.Reserved) × Errors (items_of s 14)
+pub just_errors : (s : List ℕ) → Bytes s → {h : Header} → judge_of s ≡ Ok h → any_error (items_of s 14) ≡ true
+    → (narrow_judge s ≡ Err Refusal.Reserved) × Errors (items_of s 14)
 unfolding narrow_judge walk_of items_of
 just_errors s b j z =
     let a = accepted s j in

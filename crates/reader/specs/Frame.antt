@@ -1,5 +1,6 @@
 -- Reading a frame (docs/RULES.md, "Reading a frame"): the verdict on the whole, then header, items and payloads.
-use Rattle.std.specs.Prelude.{ℕ, zero, suc, ◌-◌, ◌≡◌, Bool, false, ◌||◌, List, [], ◌∷◌, length, leb, eqb}
+use Rattle.std.specs.Prelude.{ℕ, zero, suc, ◌+◌, ◌-◌, ◌≡◌, Bool, false, ◌||◌, List, [], ◌∷◌, length, leb, eqb, Option, Some, None, Result, Ok, Err, ⊤}
+use Rattle.std.specs.Result.{result_and}
 use Rattle.codec.specs.Choice.{pick}
 use Rattle.codec.specs.Number.{word_at, over}
 use Rattle.codec.specs.Time.{recovered_of}
@@ -12,10 +13,8 @@ use Rattle.codec.specs.declared.item.Item.{Item}
 use Rattle.codec.specs.declared.field.ItemRead.{ItemRead}
 use Rattle.codec.specs.declared.header.Header.{Header}
 use Rattle.codec.specs.declared.header.HeaderRead.{HeaderRead}
-use Rattle.reader.specs.declared.frame.Judged.{Judged}
-use Rattle.reader.specs.declared.frame.Verdict.{Verdict}
 use Rattle.reader.specs.declared.place.Stepped.{Stepped}
-use Rattle.reader.specs.declared.copy.Rewritten.{Rewritten}
+use Rattle.reader.specs.declared.copy.RewriteError.{RewriteError}
 
 -- an item read at a place: what to do with it, and with a refusal
 abbrev pub open_item : {A : Type 0} → ItemRead → (Item → ℕ → ℕ → ℕ → A) → (Refusal → A) → A
@@ -31,8 +30,8 @@ along done bad more (suc n) s at =
     (open_item (read_item s at) (λ item start len next. more at item start len (along done bad more n s next)) bad)
 
 -- every item is good, or the first refusal
-unfoldable pub walk_of : List ℕ → ℕ → Verdict
-walk_of s at = along Verdict.Clean Verdict.Refused (λ place item start len rest. rest) (length s - at) s at
+unfoldable pub walk_of : List ℕ → ℕ → Result ⊤ Refusal
+walk_of s at = along (Ok tt) Err (λ place item start len rest. rest) (length s - at) s at
 
 -- the place starts an item from `at` on, or is the end
 unfoldable pub starts_of : List ℕ → ℕ → ℕ → Bool
@@ -46,9 +45,8 @@ items_of s at =
 
 -- no refusal from a place on
 abbrev pub Clean : List ℕ → ℕ → Type 0
-Clean s at = walk_of s at ≡ Verdict.Clean
+Clean s at = walk_of s at ≡ (Ok tt)
 
--- the refusal in an answer that is one; nothing asks this of an answer that is none
 abbrev pub header_refusal : HeaderRead → Refusal
 header_refusal (HeaderRead.Got h) = Refusal.Short
 header_refusal (HeaderRead.Refused why) = why
@@ -57,46 +55,41 @@ abbrev pub item_refusal : ItemRead → Refusal
 item_refusal (ItemRead.Got item start len next) = Refusal.Missing
 item_refusal (ItemRead.Refused why) = why
 
-abbrev pub judged_refusal : Judged → Refusal
-judged_refusal (Judged.Frame h) = Refusal.Short
-judged_refusal (Judged.Refused why) = why
-
--- the verdict on the items, after the header was good
-abbrev pub judged_by : Header → Verdict → Judged
-judged_by h Verdict.Clean = Judged.Frame h
-judged_by h (Verdict.Refused why) = Judged.Refused why
-
-abbrev pub open_header : HeaderRead → (Header → Judged) → Judged
+abbrev pub open_header : HeaderRead → (Header → Result Header Refusal) → Result Header Refusal
 open_header (HeaderRead.Got h) k = k h
-open_header (HeaderRead.Refused why) k = Judged.Refused why
+open_header (HeaderRead.Refused why) k = Err why
 
 -- the header first, then the items from place 14
-unfoldable pub judge_of : List ℕ → Judged
-judge_of s = open_header (read_header s) (λ h. judged_by h (walk_of s 14))
+unfoldable pub judge_of : List ℕ → Result Header Refusal
+judge_of s = open_header (read_header s) (λ h. result_and (walk_of s 14) (Ok h))
+
+-- the time at an index, as a header has it: seconds (6), nanoseconds (4)
+unfoldable pub time_at : List ℕ → ℕ → Time
+time_at s at = record { sec = word_at 6 s at; nano = word_at 4 s (at + 6) }
 
 -- the header time
-unfoldable pub time_in : List ℕ → Time
-time_in s = record { sec = word_at 6 s 2; nano = word_at 4 s 8 }
+abbrev pub time_in : List ℕ → Time
+time_in s = time_at s 2
 
 -- what stands at a place, the frame not judged: the end, or the item with its recovered time
-unfoldable pub item_at_of : List ℕ → ℕ → Stepped
+unfoldable pub item_at_of : List ℕ → ℕ → Result (Option Stepped) Refusal
 item_at_of s place =
-    pick (eqb place (length s)) Stepped.End
+    pick (eqb place (length s)) (Ok None)
     (open_item (read_item s place)
-    (λ item start len next. Stepped.Item next (recovered_of (time_in s) item.offset.0) item len)
-    Stepped.Refused)
+    (λ item start len next. Ok (Some (record { next = next; time = recovered_of (time_in s) item.offset.0; item = item; length = len })))
+    Err)
 
 -- the payload of the item at a place, empty where there is none
 unfoldable pub payload_at_of : List ℕ → ℕ → List ℕ
 payload_at_of s place = open_item (read_item s place) (λ item start len next. bytes_at s start len) (λ why. [])
 
-abbrev pub open_judged : {A : Type 0} → Judged → (Header → A) → (Refusal → A) → A
-open_judged (Judged.Frame h) k z = k h
-open_judged (Judged.Refused why) k z = z why
+abbrev pub open_judged : {A : Type 0} → Result Header Refusal → (Header → A) → (Refusal → A) → A
+open_judged (Ok h) k z = k h
+open_judged (Err why) k z = z why
 
 -- 20 to 29, then 30 for a place that neither starts an item nor is the end
-unfoldable pub step_of : List ℕ → ℕ → Stepped
-step_of s place = open_judged (judge_of s) (λ h. pick (starts_of s place 14) (item_at_of s place) (Stepped.Refused Refusal.Place)) Stepped.Refused
+unfoldable pub step_of : List ℕ → ℕ → Result (Option Stepped) Refusal
+step_of s place = open_judged (judge_of s) (λ h. pick (starts_of s place 14) (item_at_of s place) (Err Refusal.Place)) Err
 
 unfoldable pub held_of : List ℕ → ℕ → Bool
 held_of s place = open_judged (judge_of s) (λ h. starts_of s place 14) (λ why. false)
@@ -110,8 +103,8 @@ unfoldable pub laid_out : List ℕ → Header → List ℕ
 laid_out s h = layout h.sequence h.time (items_of s 14)
 
 -- the reader's refusal first, then 12
-unfoldable pub rewrite_of : List ℕ → List ℕ → Rewritten
-rewrite_of s out = open_judged (judge_of s) (λ h. pick (leb (length s) (length out)) (Rewritten.Done (length s)) Rewritten.Small) Rewritten.Refused
+unfoldable pub rewrite_of : List ℕ → List ℕ → Result ℕ RewriteError
+rewrite_of s out = open_judged (judge_of s) (λ h. pick (leb (length s) (length out)) (Ok (length s)) (Err RewriteError.Small)) (λ why. Err (RewriteError.Frame why))
 
 -- the bytes at the front of the output; later output bytes stay, and all of them where it is refused
 unfoldable pub rewritten_of : List ℕ → List ℕ → List ℕ

@@ -3,17 +3,37 @@
 ghost use Rattle.std.specs.Prelude.{◌≡◌, ◌≤◌, length};
 ghost use Rattle.codec.specs.Number.{over};
 ghost use Rattle.codec.specs.Layout.{body};
+ghost use Rattle.reader.specs.Answer.{rewrite_error_number};
 ghost use Rattle.reader.specs.Frame.{Clean, items_of, rewritten_of, rewrite_of};
+ghost use Rattle.reader.specs.declared.copy.RewriteError.{RewriteError};
 
-use crate::frame::Judged;
 use codec::field::ItemRead;
 use codec::refusal::Refusal;
 
-#[derive(Drop)]
-pub enum Rewritten {
-    Done(usize),
+// The output is shorter than the frame, or the frame is none.
+#[derive(Clone, Copy)]
+pub enum RewriteError {
     Small,
-    Refused(Refusal),
+    Frame(Refusal),
+}
+
+impl From<Refusal> for RewriteError {
+    ghost from_gives = { λ why e. e ≡ RewriteError.Frame why };
+
+    fn from(why: Refusal) -> RewriteError {
+        RewriteError::Frame(why)
+    }
+}
+
+impl From<RewriteError> for u8 {
+    ghost from_gives = { λ e n. n ≡ rewrite_error_number e };
+
+    fn from(error: RewriteError) -> u8 {
+        match error {
+            RewriteError::Small => 12,
+            RewriteError::Frame(why) => codec::refusal::number_of(why),
+        }
+    }
 }
 
 fn rewrite_items(frame: &[u8], first: usize, out: &mut [u8])
@@ -38,18 +58,15 @@ fn rewrite_items(frame: &[u8], first: usize, out: &mut [u8])
     }
 }
 
-pub fn rewrite(frame: &[u8], out: &mut [u8]) -> Rewritten
+pub fn rewrite(frame: &[u8], out: &mut [u8]) -> Result<usize, RewriteError>
     ensures value { result ≡ rewrite_of frame.now out.old }
     ensures out_after { out.new ≡ rewritten_of frame.now out.old }
 {
-    let judged = crate::frame::judge(frame);
-    let Judged::Frame(h) = judged else {
-        return Rewritten::Refused(crate::frame::judged_refusal(judged));
-    };
+    let header = crate::frame::judge(frame)?;
     if out.len() < frame.len() {
-        return Rewritten::Small;
+        return Err(RewriteError::Small);
     }
-    codec::header::write_header(out, 0, h);
+    codec::header::write_header(out, 0, header);
     rewrite_items(frame, 14, out);
-    Rewritten::Done(frame.len())
+    Ok(frame.len())
 }

@@ -1,5 +1,4 @@
-use Rattle.std.proofs.Common.{◌∙◌, sym, ap, arith}
-use Rattle.reader.specs.declared.frame.Verdict.TheVariants as Verdict
+use Rattle.std.proofs.Common.{Err, ◌∙◌, sym, ap, arith}
 use Rattle.reader.specs.Frame.{item_refusal}
 use Rattle.codec.proofs.Inverse.{read_room}
 use Rattle.reader.proofs.AlongLaws.{walk_end, walk_item, walk_bad}
@@ -7,7 +6,7 @@ use Rattle.reader.proofs.frame.walk.Goals as goal
 
 pub returns-in_default : goal.returns-in_default
 returns-in_default c =
-    ap Verdict.Refused (c.item_refusal.ensures ∙ ap item_refusal c.in_default.is) ∙ sym (c.loop-at.invariant.1 ∙ walk_bad _ _ c.loop-at-test.true (sym c.in_default.ensures))
+    ap Err (c.item_refusal.ensures ∙ ap item_refusal c.in_default.is) ∙ sym (c.loop-at.invariant.1 ∙ walk_bad _ _ c.loop-at-test.true (sym c.in_default.ensures))
 
 pub loop-at-smaller : goal.loop-at-smaller
 loop-at-smaller c = let r = read_room _ _ (sym c.in-Got.ensures) in omega arith

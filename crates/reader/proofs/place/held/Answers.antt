@@ -1,7 +1,6 @@
-use Rattle.std.proofs.Common.{sym}
-use Rattle.codec.proofs.Inverse.{header_got}
-use Rattle.reader.proofs.FrameLaws.{accepted}
+use Rattle.std.proofs.Common.{◌∙◌, sym}
+use Rattle.reader.proofs.FrameLaws.{is_ok_long}
 use Rattle.reader.proofs.place.held.Goals as goal
 
 pub starts-requires : goal.starts-requires
-starts-requires c = (header_got _ (accepted _ (sym c.in-Frame.ensures)).0).long
+starts-requires c = is_ok_long _ (rw (← c.judge.ensures) (sym c.is_ok.ensures.value ∙ c.if-is_ok.true))

@@ -4,4 +4,4 @@ use Rattle.reader.proofs.FrameLaws.{accepted}
 use Rattle.reader.proofs.place.step.Goals as goal
 
 pub starts-requires : goal.starts-requires
-starts-requires c = (header_got _ (accepted _ (sym c.in-Frame.ensures)).0).long
+starts-requires c = (header_got _ (accepted _ (sym c.in_ok-judge.ensures)).0).long
