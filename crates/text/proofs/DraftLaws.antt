@@ -11,7 +11,7 @@ use lib.Dec.{leb}
 use borrow.Author.Tests.{le-leb}
 use Rattle.codec.specs.Choice.{pick}
 use Rattle.codec.specs.Number.{over, fits, Wrote}
-use Rattle.codec.specs.declared.number.Put.{Put}
+use Rattle.std.specs.Prelude.{Option, Some, None}
 use Rattle.codec.proofs.Opened.{never}
 use Rattle.text.specs.Put.{decimal_of}
 use Rattle.text.specs.Draft.{added, numbers_of, numbered, row_of, rowed, Adds}
@@ -25,7 +25,7 @@ written_front bytes bs at h =
     take_at (take at bytes ++ bs) (drop (at + length bs) bytes) (at + length bs) n
 
 -- what found room stands behind the front, and what did not has changed nothing
-module _ {n : ℕ} {bytes bytes' l bs : List ℕ} {at : ℕ} {p : Put} (s : length bytes ≡ n) (h : at ≤ n) (e : take at bytes ≡ l) (w : Wrote true bytes at bs bytes' p) where
+module _ {n : ℕ} {bytes bytes' l bs : List ℕ} {at : ℕ} {p : Option ℕ} (s : length bytes ≡ n) (h : at ≤ n) (e : take at bytes ≡ l) (w : Wrote true bytes at bs bytes' p) where
   long : length l ≡ at
   long = ap length (sym e) ∙ length-take-le at bytes (omega arith)
 
@@ -33,24 +33,24 @@ module _ {n : ℕ} {bytes bytes' l bs : List ℕ} {at : ℕ} {p : Put} (s : leng
   unfolding fits
   same_test = rw (s, long)
 
-  pub grown : {end : ℕ} → p ≡ Put.Next end → take end bytes' ≡ added n l bs
+  pub grown : {end : ℕ} → p ≡ Some end → take end bytes' ≡ added n l bs
   unfolding added
   grown {end} q = go (leb (length l + length bs) n) same_test
     where
       go : (b : Bool) → fits bytes at (length bs) ≡ b → take end bytes' ≡ pick b (l ++ bs) l
       go true f =
-          let a : Put.Next (at + length bs) ≡ Put.Next end = rw f at (sym w.answer ∙ q) in
+          let a : Some (at + length bs) ≡ Some end = rw f at (sym w.answer ∙ q) in
           let z : at + length bs ≡ end = cc in
           let y : bytes' ≡ over bytes at bs = rw f at w.list in
           rw (← z, y) (written_front bytes bs at (omega arith) ∙ ap (λ (x : List ℕ). x ++ bs) e)
-      go false f = let a : Put.Nothing ≡ Put.Next end = rw f at (sym w.answer ∙ q) in never (cc)
+      go false f = let a : None ≡ Some end = rw f at (sym w.answer ∙ q) in never (cc)
 
-  pub stayed : p ≡ Put.Nothing → take at bytes' ≡ added n l bs
+  pub stayed : p ≡ None → take at bytes' ≡ added n l bs
   unfolding added
   stayed q = go (leb (length l + length bs) n) same_test
     where
       go : (b : Bool) → fits bytes at (length bs) ≡ b → take at bytes' ≡ pick b (l ++ bs) l
-      go true f = let a : Put.Next (at + length bs) ≡ Put.Nothing = rw f at (sym w.answer ∙ q) in never (cc)
+      go true f = let a : Some (at + length bs) ≡ None = rw f at (sym w.answer ∙ q) in never (cc)
       go false f = let y : bytes' ≡ bytes = rw f at w.list in rw y e
 
 -- what finds room is added
@@ -125,6 +125,6 @@ pub row_most : (j k : ℕ) (name vs : List ℕ) → length name ≤ j → length
 row_most j k name vs p q = (row_add {n = j + 21 * k + 1} j k name vs p q (omega arith)).most
 
 -- a row that is written
-pub row_put : {n : ℕ} (j k : ℕ) (name vs : List ℕ) {d l l' : List ℕ} {at : ℕ} {r : Put} → d ≡ rowed n name vs → Wrote true l at d l' r
+pub row_put : {n : ℕ} (j k : ℕ) (name vs : List ℕ) {d l l' : List ℕ} {at : ℕ} {r : Option ℕ} → d ≡ rowed n name vs → Wrote true l at d l' r
     → length name ≤ j → length vs ≤ k → j + 21 * k + 1 ≤ n → Wrote true l at (row_of name vs) l' r
 row_put j k name vs e w p q h = rw (e ∙ row_is j k name vs p q h) at w

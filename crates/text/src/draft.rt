@@ -4,7 +4,6 @@ ghost use Rattle.codec.specs.Number.{Wrote};
 ghost use Rattle.text.specs.Put.{decimal_of};
 ghost use Rattle.text.specs.Draft.{added, numbered, rowed};
 
-use codec::number::Put;
 use std::marker::Model;
 
 // At most N bytes. What finds no room is left out whole.
@@ -37,7 +36,7 @@ impl<const N: usize> Draft<N> {
     pub fn push(&mut self, s: &[u8])
         ensures { self.new ≡ added N self.old s.now }
     {
-        if let Put::Next(end) = codec::number::put_bytes(&mut self.bytes, self.len, s) {
+        if let Some(end) = codec::number::put_bytes(&mut self.bytes, self.len, s) {
             self.len = end;
         }
     }
@@ -45,7 +44,7 @@ impl<const N: usize> Draft<N> {
     pub fn decimal(&mut self, v: u64)
         ensures { self.new ≡ added N self.old (decimal_of v) }
     {
-        if let Put::Next(end) = crate::put::decimal(&mut self.bytes, self.len, v) {
+        if let Some(end) = crate::put::decimal(&mut self.bytes, self.len, v) {
             self.len = end;
         }
     }
@@ -79,7 +78,7 @@ impl<const N: usize> Draft<N> {
     }
 
     // The whole of it over a slice, where it fits.
-    pub fn put(&self, out: &mut [u8], at: usize) -> Put
+    pub fn put(&self, out: &mut [u8], at: usize) -> Option<usize>
         ensures { Wrote true out.old at self.now out.new result }
     {
         codec::number::put_bytes(out, at, self.as_slice())
