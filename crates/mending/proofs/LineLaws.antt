@@ -9,9 +9,11 @@ use lib.Dec.{eqb}
 use borrow.Author.Tests.{ne_eqb}
 use Rattle.codec.specs.Choice.{pick}
 use Rattle.codec.specs.Number.{Wrote}
-use Rattle.codec.specs.declared.number.Put.{Put}
+use Rattle.std.specs.Prelude.{Option, Result, Ok, Err}
 use Rattle.text.specs.Draft.{row_of, rowed}
 use Rattle.text.proofs.DraftLaws.{row_most, row_put}
+use Rattle.recording.specs.Error.{number_of}
+use Rattle.recording.specs.declared.error.RecordError.{RecordError}
 use Rattle.recording.specs.declared.field.Found.{Found}
 use Rattle.mending.specs.Check.{found_line, rest_text, fields_line}
 use Rattle.mending.specs.declared.check.Tally.{Tally}
@@ -20,7 +22,7 @@ most : (name vs : List ℕ) → length name ≤ 8 → length vs ≤ 3 → length
 most name vs = row_most 8 3 name vs
 
 -- so that a line of 128 has room for any
-pub said : (name vs : List ℕ) {d l l' : List ℕ} {at : ℕ} {r : Put} → d ≡ rowed 128 name vs → Wrote true l at d l' r → length name ≤ 8 → length vs ≤ 3
+pub said : (name vs : List ℕ) {d l l' : List ℕ} {at : ℕ} {r : Option ℕ} → d ≡ rowed 128 name vs → Wrote true l at d l' r → length name ≤ 8 → length vs ≤ 3
     → Wrote true l at (row_of name vs) l' r
 said name vs e w p q = row_put 8 3 name vs e w p q (omega arith)
 
@@ -28,12 +30,12 @@ pub rest_some : (n : ℕ) → (n ≡ 0 → ⊥) → rest_text n ≡ row_of (114 
 unfolding rest_text
 rest_some n h = rw (ne_eqb n 0 h)
 
-pub line_most : (tag n : ℕ) (found : Found) → length (found_line tag n found) ≤ 72
-line_most tag n (Found.Frame h) = most _ (tag ∷ n ∷ []) (omega arith) (omega arith)
-line_most tag n Found.Note = most (103 ∷ 111 ∷ 111 ∷ 100 ∷ []) (tag ∷ n ∷ []) (omega arith) (omega arith)
-line_most tag n (Found.Start t) = most (103 ∷ 111 ∷ 111 ∷ 100 ∷ []) (tag ∷ n ∷ []) (omega arith) (omega arith)
-line_most tag n (Found.Refused answer) = most _ (tag ∷ answer ∷ n ∷ []) (omega arith) (omega arith)
-line_most tag n Found.Skipped = most _ (tag ∷ n ∷ []) (omega arith) (omega arith)
+pub line_most : (tag n : ℕ) (found : Result Found RecordError) → length (found_line tag n found) ≤ 72
+line_most tag n (Ok (Found.Frame h)) = most _ (tag ∷ n ∷ []) (omega arith) (omega arith)
+line_most tag n (Ok Found.Note) = most (103 ∷ 111 ∷ 111 ∷ 100 ∷ []) (tag ∷ n ∷ []) (omega arith) (omega arith)
+line_most tag n (Ok (Found.Start t)) = most (103 ∷ 111 ∷ 111 ∷ 100 ∷ []) (tag ∷ n ∷ []) (omega arith) (omega arith)
+line_most tag n (Err why) = most _ (tag ∷ number_of why ∷ n ∷ []) (omega arith) (omega arith)
+line_most tag n (Ok Found.Skipped) = most _ (tag ∷ n ∷ []) (omega arith) (omega arith)
 
 pub rest_most : (n : ℕ) → length (rest_text n) ≤ 72
 unfolding rest_text

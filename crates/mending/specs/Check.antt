@@ -1,9 +1,11 @@
 -- The lines of a checker (docs/SCRIPT.md, "The check"). Numbers below are the characters of the names.
-use Rattle.std.specs.Prelude.{ℕ, ◌+◌, min, Bool, not, List, [], ◌∷◌, ◌++◌, length, eqb}
+use Rattle.std.specs.Prelude.{ℕ, ◌+◌, min, Result, Ok, Err, Bool, not, List, [], ◌∷◌, ◌++◌, length, eqb}
 use Rattle.codec.specs.Choice.{pick, bit}
 use Rattle.text.specs.Draft.{row_of}
 use Rattle.recording.specs.File.{Finding, left_of, findings_of, skips}
 use Rattle.recording.specs.Trip.{good}
+use Rattle.recording.specs.Error.{number_of}
+use Rattle.recording.specs.declared.error.RecordError.{RecordError}
 use Rattle.recording.specs.declared.field.Found.{Found}
 use Rattle.mending.specs.Copy.{stays}
 use Rattle.mending.specs.declared.check.Tally.{Tally}
@@ -21,12 +23,12 @@ abbrev pub unknown_line : ℕ → ℕ → List ℕ
 unknown_line tag n = row_of (117 ∷ 110 ∷ 107 ∷ 110 ∷ 111 ∷ 119 ∷ 110 ∷ []) (tag ∷ n ∷ [])
 
 -- of a field, by what it is found to be
-abbrev pub found_line : ℕ → ℕ → Found → List ℕ
-found_line tag n (Found.Frame h) = good_line tag n
-found_line tag n Found.Note = good_line tag n
-found_line tag n (Found.Start t) = good_line tag n
-found_line tag n (Found.Refused answer) = bad_line tag answer n
-found_line tag n Found.Skipped = unknown_line tag n
+abbrev pub found_line : ℕ → ℕ → Result Found RecordError → List ℕ
+found_line tag n (Ok (Found.Frame h)) = good_line tag n
+found_line tag n (Ok Found.Note) = good_line tag n
+found_line tag n (Ok (Found.Start t)) = good_line tag n
+found_line tag n (Ok Found.Skipped) = unknown_line tag n
+found_line tag n (Err why) = bad_line tag (number_of why) n
 
 abbrev pub finding_line : Finding → List ℕ
 finding_line f = found_line f.tag f.size f.found
@@ -40,11 +42,11 @@ abbrev pub fields_line : Tally → ℕ → List ℕ
 fields_line t unknown = row_of (102 ∷ 105 ∷ 101 ∷ 108 ∷ 100 ∷ 115 ∷ []) (t.good ∷ t.bad ∷ unknown ∷ [])
 
 -- how many findings there are of a sort
-abbrev pub count_of : (Found → Bool) → List Finding → ℕ
+abbrev pub count_of : (Result Found RecordError → Bool) → List Finding → ℕ
 count_of sort [] = 0
 count_of sort (f ∷ fs) = bit (sort f.found) + count_of sort fs
 
-abbrev pub bad : Found → Bool
+abbrev pub bad : Result Found RecordError → Bool
 bad found = not (stays found)
 
 -- every count stops at 4,294,967,295, as that of the skipped fields does
@@ -55,7 +57,7 @@ abbrev pub tally_of : List Finding → Tally
 tally_of fs = record { good = min (count_of good fs) most; bad = min (count_of bad fs) most }
 
 -- one finding more
-abbrev pub tallied : Tally → Found → Tally
+abbrev pub tallied : Tally → Result Found RecordError → Tally
 tallied t found = record { good = min (t.good + bit (good found)) most; bad = min (t.bad + bit (bad found)) most }
 
 -- all that is written: a line for each field, then what is left, then how many there were
