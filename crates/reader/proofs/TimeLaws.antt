@@ -8,12 +8,15 @@ use lib.ListN.{length}
 use lib.Dec.{leb}
 use borrow.Author.Tests.{leb-true, leb-false}
 use Rattle.codec.specs.Number.{word_at}
-use Rattle.codec.proofs.NumberLaws.{word_short}
+use Rattle.codec.proofs.NumberLaws.{got_none, word_none}
 
 -- past any bytes, both indices find nothing
 pub nano_cut : (s : List ℕ) (at : ℕ) → length s < 9223372036854775808 → word_at 4 s (min (at + 6) 18446744073709551615) ≡ word_at 4 s (at + 6)
 nano_cut s at h = go (leb (at + 6) 18446744073709551615) refl
   where
+    nothing : (i : ℕ) → length s < i + 4 → 0 ≡ word_at 4 s i
+    nothing i h = (word_none 4 s i (got_none 4 s i h)).is
+
     go : (b : Bool) → leb (at + 6) 18446744073709551615 ≡ b → word_at 4 s (min (at + 6) 18446744073709551615) ≡ word_at 4 s (at + 6)
     go true e =
         let k = leb-true (at + 6) 18446744073709551615 e in
@@ -23,4 +26,4 @@ nano_cut s at h = go (leb (at + 6) 18446744073709551615) refl
         let k = leb-false (at + 6) 18446744073709551615 e in
         let m : length s < min (at + 6) 18446744073709551615 + 4 = omega arith in
         let n : length s < at + 6 + 4 = omega arith in
-        sym (word_short 4 s (min (at + 6) 18446744073709551615) (omega arith) m).is ∙ (word_short 4 s (at + 6) (omega arith) n).is
+        sym (nothing (min (at + 6) 18446744073709551615) m) ∙ nothing (at + 6) n

@@ -1,7 +1,6 @@
 -- Any two outcomes that a public function's own contract permits coincide.
 use mathlib.Core.Path.{◌≡◌, sym, ◌∙◌}
 use Rattle.reader.proofs.frame.judge.Reads as judge
-use Rattle.reader.proofs.frame.item_refusal.Reads as item-refusal
 use Rattle.reader.proofs.place.step.Reads as step
 use Rattle.reader.proofs.place.item_at.Reads as item-at
 use Rattle.reader.proofs.place.payload.Reads as payload
@@ -28,9 +27,6 @@ payload_at_unique κs a r r' x x' p q = p ∙ sym q
 
 pub rewrite_unique : (κs : _) (a : _) (r r' : _) (x x' : _) → rewrite.Post κs a r x → rewrite.Post κs a r' x' → (r ≡ r') × (x.1.0.now ≡ x'.1.0.now)
 rewrite_unique κs a r r' x x' p q = (p.0 ∙ sym q.0, p.1 ∙ sym q.1)
-
-pub item_refusal_unique : (κs : _) (a : _) (r r' : _) (x x' : _) → item-refusal.Post κs a r x → item-refusal.Post κs a r' x' → r ≡ r'
-item_refusal_unique κs a r r' x x' p q = p ∙ sym q
 
 pub number_unique : (κs : _) (a : _) (r r' : _) (x x' : _) → number.Post κs a r x → number.Post κs a r' x' → r ≡ r'
 number_unique κs a r r' x x' p q = p ∙ sym q

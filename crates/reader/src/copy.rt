@@ -7,11 +7,11 @@ ghost use Rattle.reader.specs.Answer.{rewrite_error_number};
 ghost use Rattle.reader.specs.Frame.{Clean, items_of, rewritten_of, rewrite_of};
 ghost use Rattle.reader.specs.declared.copy.RewriteError.{RewriteError};
 
-use codec::field::ItemRead;
+use crate::items::Items;
 use codec::refusal::Refusal;
 
 // The output is shorter than the frame, or the frame is none.
-#[derive(Clone, Copy)]
+#[derive(Clone, Copy, Debug, PartialEq, Eq)]
 pub enum RewriteError {
     Small,
     Frame(Refusal),
@@ -31,30 +31,22 @@ impl From<RewriteError> for u8 {
     fn from(error: RewriteError) -> u8 {
         match error {
             RewriteError::Small => 12,
-            RewriteError::Frame(why) => codec::refusal::number_of(why),
+            RewriteError::Frame(why) => u8::from(why),
         }
     }
 }
 
-fn rewrite_items(frame: &[u8], first: usize, out: &mut [u8])
-    requires first_in_bounds { first ≤ length frame.now }
+fn rewrite_items(frame: &[u8], out: &mut [u8])
     requires frame_in_bounds { length frame.now ≤ length out.old }
-    requires clean { Clean frame.now first }
-    ensures { out.new ≡ over out.old first (body (items_of frame.now first)) }
+    requires clean { Clean frame.now 14 }
+    ensures { out.new ≡ over out.old 14 (body (items_of frame.now 14)) }
 {
-    let mut at = first;
-    while at < frame.len() {
-        let ItemRead::Got {
-            item,
-            start,
-            len,
-            next,
-        } = codec::field::read_item(frame, at)
-        else {
+    for read in Items::of(frame) {
+        let Ok((place, decoded)) = read else {
             return;
         };
-        codec::item::write_item(out, at, item, codec::field::part_at(frame, start, len));
-        at = next;
+        let payload = codec::field::part_at(frame, decoded.start, decoded.len);
+        codec::item::write_item(out, place, decoded.item, payload);
     }
 }
 
@@ -67,6 +59,6 @@ pub fn rewrite(frame: &[u8], out: &mut [u8]) -> Result<usize, RewriteError>
         return Err(RewriteError::Small);
     }
     codec::header::write_header(out, 0, header);
-    rewrite_items(frame, 14, out);
+    rewrite_items(frame, out);
     Ok(frame.len())
 }

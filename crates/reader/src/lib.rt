@@ -3,6 +3,7 @@
 
 mod copy;
 mod frame;
+mod items;
 mod place;
 
 pub use copy::{RewriteError, rewrite};

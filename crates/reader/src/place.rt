@@ -1,8 +1,8 @@
 // One item at a place, and its payload as that very part of the caller's frame.
-ghost use Rattle.std.specs.Prelude.{◌≡◌, ◌≤◌, length};
+ghost use Rattle.std.specs.Prelude.{◌≡◌};
 ghost use Rattle.reader.specs.Frame.{time_at, starts_of, held_of, item_at_of, payload_at_of, step_of, payload_of};
 
-use codec::field::ItemRead;
+use crate::items::Items;
 use codec::item::Item;
 use codec::refusal::Refusal;
 use codec::time::Time;
@@ -35,22 +35,12 @@ pub fn item_at(frame: &[u8], place: usize) -> Result<Option<Stepped>, Refusal>
     if place == frame.len() {
         return Ok(None);
     }
-    let read = codec::field::read_item(frame, place);
-    let ItemRead::Got {
-        item,
-        start: _,
-        len,
-        next,
-    } = read
-    else {
-        return Err(crate::frame::item_refusal(read));
-    };
-    let offset = item.offset;
+    let decoded = codec::field::read_item(frame, place)?;
     Ok(Some(Stepped {
-        next,
-        time: codec::time::recovered(time_at(frame, 2), offset),
-        item,
-        length: len,
+        next: decoded.next,
+        time: codec::time::recovered(time_at(frame, 2), decoded.item.offset),
+        item: decoded.item,
+        length: decoded.len,
     }))
 }
 
@@ -58,40 +48,25 @@ pub fn item_at(frame: &[u8], place: usize) -> Result<Option<Stepped>, Refusal>
 pub fn payload_at(frame: &[u8], place: usize) -> &[u8]
     ensures { result.now ≡ payload_at_of frame.now place }
 {
-    let ItemRead::Got {
-        item: _,
-        start,
-        len,
-        next: _,
-    } = codec::field::read_item(frame, place)
-    else {
-        return &frame[..0];
-    };
-    codec::field::part_at(frame, start, len)
+    match codec::field::read_item(frame, place) {
+        Ok(decoded) => codec::field::part_at(frame, decoded.start, decoded.len),
+        Err(_) => &frame[..0],
+    }
 }
 
-// The place starts an item or is the end, walking from the first item.
-fn starts(frame: &[u8], first: usize, place: usize) -> bool
-    requires { first ≤ length frame.now }
-    ensures { result ≡ starts_of frame.now place first }
+// The place starts an item or is the end.
+fn starts(frame: &[u8], place: usize) -> bool
+    ensures { result ≡ starts_of frame.now place 14 }
 {
-    let mut at = first;
-    while at < frame.len() {
-        let ItemRead::Got {
-            item: _,
-            start: _,
-            len: _,
-            next,
-        } = codec::field::read_item(frame, at)
-        else {
+    for read in Items::of(frame) {
+        let Ok((here, _)) = read else {
             return false;
         };
-        if at == place {
+        if here == place {
             return true;
         }
-        at = next;
     }
-    at == place
+    frame.len() == place
 }
 
 #[tactic(auto, unfolding(crate::specs::Frame::step_of))]
@@ -99,7 +74,7 @@ pub fn step(frame: &[u8], place: usize) -> Result<Option<Stepped>, Refusal>
     ensures { result ≡ step_of frame.now place }
 {
     crate::frame::judge(frame)?;
-    if starts(frame, 14, place) {
+    if starts(frame, place) {
         item_at(frame, place)
     } else {
         Err(Refusal::Place)
@@ -111,7 +86,7 @@ pub fn step(frame: &[u8], place: usize) -> Result<Option<Stepped>, Refusal>
 fn held(frame: &[u8], place: usize) -> bool
     ensures { result ≡ held_of frame.now place }
 {
-    crate::frame::judge(frame).is_ok() && starts(frame, 14, place)
+    crate::frame::judge(frame).is_ok() && starts(frame, place)
 }
 
 #[tactic(auto, unfolding(crate::specs::Frame::payload_of))]

@@ -7,11 +7,10 @@ use native.Mathlib.Omega.{arith}
 use lib.ListN.{length, take, drop, get_or, get_or-eq_default}
 use lib.Dec.{ltb, leb}
 use borrow.Author.Tests.{lt-ltb, le-ltb, eq-eqb, ne_eqb, ltb-true, leb-true, leb-false}
-use Rattle.std.specs.Prelude.{Ok, Err}
+use Rattle.std.specs.Prelude.{Option, Ok, Err}
 use Rattle.codec.specs.Choice.{pick}
 use Rattle.codec.proofs.Opened.{never}
 use Rattle.codec.specs.Number.{Wrote}
-use Rattle.codec.specs.declared.number.Put.{Put}
 use Rattle.recording.specs.declared.error.RecordError.{RecordError}
 use Rattle.recording.specs.declared.pieces.Place.{Place}
 use Rattle.recording.specs.declared.pieces.Step.{Step}
@@ -96,7 +95,7 @@ pub not_kept : (p : Place) (buffer piece : List ℕ) → keeps p.tag (length_of 
 unfolding buffer_of
 not_kept p buffer piece e = simp e
 
-pub kept_by_lem : {l' : List ℕ} {r : Put} (p : Place) (buffer piece : List ℕ) → keeps p.tag (length_of p) ≡ true
+pub kept_by_lem : {l' : List ℕ} {r : Option ℕ} (p : Place) (buffer piece : List ℕ) → keeps p.tag (length_of p) ≡ true
     → Wrote true buffer (p.past - 3) (part_of p piece) l' r → l' ≡ buffer_of p buffer piece
 unfolding buffer_of
 kept_by_lem p buffer piece e w = w.list ∙ simp e

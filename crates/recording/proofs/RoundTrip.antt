@@ -20,7 +20,7 @@ use Rattle.codec.proofs.BoolLaws.{and_l, and_r}
 use Rattle.codec.proofs.NumberLaws.{word_is}
 use Rattle.codec.proofs.Stands.{val-be, bytes_part, word_stands, part_back}
 use Rattle.codec.proofs.Stands.{join as join_Stands}
-use Rattle.reader.specs.Frame.{judge_of, open_judged, time_at}
+use Rattle.reader.specs.Frame.{judge_of, resolved, time_at}
 use Rattle.recording.specs.declared.error.RecordError.{RecordError}
 use Rattle.recording.specs.File.{Raw, length_in, size_in, complete, first, fields_of, left_of, frame_found, note_found, start_in, start_found, verdict, keeps, finding_of, findings_of}
 use Rattle.recording.specs.Write.{field_bytes, start_bytes, frame_answer, note_answer, start_answer}
@@ -124,8 +124,8 @@ pub whole : (s : List ℕ) → Bytes s → s ≡ file_of (fields_of s) ++ left_o
 whole s b = (parts (length s) s b (omega arith)).is
 
 -- The writer's answer is that of the listing.
-judged_answer : (j : Result Header Refusal) → open_judged j (λ h. Ok tt) (λ why. Err (RecordError.Frame why))
-    ≡ answer_in (open_judged j (λ h. Ok (Found.Frame h)) (λ why. Err (RecordError.Frame why)))
+judged_answer : (j : Result Header Refusal) → resolved j (λ h. Ok tt) (λ why. Err (RecordError.Frame why))
+    ≡ answer_in (resolved j (λ h. Ok (Found.Frame h)) (λ why. Err (RecordError.Frame why)))
 judged_answer (Ok h) = refl
 judged_answer (Err why) = refl
 
@@ -133,8 +133,8 @@ pub frame_answers : (body : List ℕ) → frame_answer body ≡ answer_in (verdi
 unfolding frame_answer verdict frame_found
 frame_answers body = go (ltb 1472 (length body)) (judge_of body)
   where
-    go : (b : Bool) (j : Result Header Refusal) → pick b (Err RecordError.Long) (open_judged j (λ h. Ok (tt {0})) (λ why. Err (RecordError.Frame why)))
-        ≡ answer_in (pick b (Err RecordError.Long) (open_judged j (λ h. Ok (Found.Frame h)) (λ why. Err (RecordError.Frame why))))
+    go : (b : Bool) (j : Result Header Refusal) → pick b (Err RecordError.Long) (resolved j (λ h. Ok (tt {0})) (λ why. Err (RecordError.Frame why)))
+        ≡ answer_in (pick b (Err RecordError.Long) (resolved j (λ h. Ok (Found.Frame h)) (λ why. Err (RecordError.Frame why))))
     go true j = refl
     go false j = judged_answer j
 
@@ -163,8 +163,8 @@ pub frame_is_good : (body : List ℕ) → frame_answer body ≡ Ok tt → good (
 unfolding frame_answer verdict frame_found
 frame_is_good body e = go (ltb 1472 (length body)) (judge_of body) e
   where
-    go : (b : Bool) (j : Result Header Refusal) → pick b (Err RecordError.Long) (open_judged j (λ h. Ok (tt {0})) (λ why. Err (RecordError.Frame why))) ≡ Ok (tt {0})
-        → good (pick b (Err RecordError.Long) (open_judged j (λ h. Ok (Found.Frame h)) (λ why. Err (RecordError.Frame why)))) ≡ true
+    go : (b : Bool) (j : Result Header Refusal) → pick b (Err RecordError.Long) (resolved j (λ h. Ok (tt {0})) (λ why. Err (RecordError.Frame why))) ≡ Ok (tt {0})
+        → good (pick b (Err RecordError.Long) (resolved j (λ h. Ok (Found.Frame h)) (λ why. Err (RecordError.Frame why)))) ≡ true
     go true j e = never (cc)
     go false (Ok h) e = refl
     go false (Err why) e = never (cc)
@@ -215,8 +215,8 @@ unfolding verdict frame_found keeps
 frame_again n body e = go (ltb 1472 n) (judge_of body) refl e
   where
     go : (b : Bool) (j : Result Header Refusal) → ltb 1472 n ≡ b
-        → good (pick b (Err RecordError.Long) (open_judged j (λ h. Ok (Found.Frame h)) (λ why. Err (RecordError.Frame why)))) ≡ true
-        → again_by (pick b (Err RecordError.Long) (open_judged j (λ h. Ok (Found.Frame h)) (λ why. Err (RecordError.Frame why)))) (pick (keeps 1 n) body []) ≡ field_bytes 1 body
+        → good (pick b (Err RecordError.Long) (resolved j (λ h. Ok (Found.Frame h)) (λ why. Err (RecordError.Frame why)))) ≡ true
+        → again_by (pick b (Err RecordError.Long) (resolved j (λ h. Ok (Found.Frame h)) (λ why. Err (RecordError.Frame why)))) (pick (keeps 1 n) body []) ≡ field_bytes 1 body
     go true j f e = never (cc)
     go false (Err why) f e = never (cc)
     go false (Ok h) f e = rw (le-leb n 1472 (ltb-false 1472 n f))

@@ -6,10 +6,9 @@ use mathlib.Core.List.{List, [], ◌++◌, append-nil}
 use native.Mathlib.Omega.{arith}
 use lib.ListN.{length, set, drop_of_length-le}
 use borrow.Author.Tests.{lt-ltb, le-ltb}
-use Rattle.std.specs.Prelude.{Result, Ok, Err, ⊤}
+use Rattle.std.specs.Prelude.{Option, Result, Ok, Err, ⊤}
 use Rattle.codec.specs.Number.{be, Wrote, Laid}
 use Rattle.codec.specs.Time.{time_ok}
-use Rattle.codec.specs.declared.number.Put.{Put}
 use Rattle.codec.specs.declared.time.Time.{Time}
 use Rattle.codec.proofs.NumberLaws.{laid, laid_by, chain_put, no_room, has_room_lem}
 use Rattle.reader.specs.Frame.{judge_of}
@@ -30,7 +29,7 @@ field_full {l} {at} tag body h =
     record { list = simp e; says = simp e }
 
 -- room: tag, length and body laid one after the other
-pub field_laid : {l m l' : List ℕ} {at : ℕ} {p q : Put} (tag : ℕ) (body : List ℕ)
+pub field_laid : {l m l' : List ℕ} {at : ℕ} {p q : Option ℕ} (tag : ℕ) (body : List ℕ)
     → Wrote true (set l at tag) (at + 1) (be 2 (length body)) m p → Wrote true m (at + 3) body l' q → at + (3 + length body) ≤ length l
     → Recorded (Ok tt) l at (field_bytes tag body) l' (Ok (at + (3 + length body)))
 unfolding field_bytes
@@ -80,7 +79,7 @@ unfolding start_answer
 start_in_range t e = simp e
 
 -- seconds and nanoseconds over ten bytes are the body of a start
-pub start_laid : {l m l' : List ℕ} {p q : Put} (t : Time) → length l ≡ 10
+pub start_laid : {l m l' : List ℕ} {p q : Option ℕ} (t : Time) → length l ≡ 10
     → Wrote true l 0 (be 6 t.sec) m p → Wrote true m 6 (be 4 t.nano) l' q → l' ≡ start_bytes t
 unfolding start_bytes
 start_laid {l} {m} {l'} t n a b =

@@ -5,7 +5,7 @@ use Rattle.codec.specs.Choice.{pick}
 use Rattle.codec.specs.Number.{be, over, fits}
 use Rattle.codec.specs.Time.{time_ok}
 use Rattle.codec.specs.declared.time.Time.{Time}
-use Rattle.reader.specs.Frame.{judge_of, open_judged}
+use Rattle.reader.specs.Frame.{judge_of, resolved}
 use Rattle.recording.specs.declared.error.RecordError.{RecordError}
 
 -- tag, length, body
@@ -19,7 +19,7 @@ start_bytes t = be 6 t.sec ++ be 4 t.nano
 -- what stands against writing it: 41, then the reader's refusal
 unfoldable pub frame_answer : List ℕ → Result ⊤ RecordError
 frame_answer body =
-    pick (ltb 1472 (length body)) (Err RecordError.Long) (open_judged (judge_of body) (λ h. Ok tt) (λ why. Err (RecordError.Frame why)))
+    pick (ltb 1472 (length body)) (Err RecordError.Long) (resolved (judge_of body) (λ h. Ok tt) (λ why. Err (RecordError.Frame why)))
 
 -- 41
 unfoldable pub note_answer : List ℕ → Result ⊤ RecordError

@@ -5,7 +5,7 @@ ghost use Rattle.recording.specs.declared.error.RecordError.{RecordError};
 
 use codec::refusal::Refusal;
 
-#[derive(Clone, Copy)]
+#[derive(Clone, Copy, Debug, PartialEq, Eq)]
 pub enum RecordError {
     // the output has no room for the field
     Small,
@@ -33,7 +33,7 @@ impl From<RecordError> for u8 {
     fn from(error: RecordError) -> u8 {
         match error {
             RecordError::Small => 12,
-            RecordError::Frame(why) => codec::refusal::number_of(why),
+            RecordError::Frame(why) => u8::from(why),
             RecordError::Cut => 40,
             RecordError::Long => 41,
             RecordError::Start => 42,

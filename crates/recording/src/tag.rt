@@ -2,7 +2,7 @@
 ghost use Rattle.std.specs.Prelude.{◌≡◌};
 ghost use Rattle.recording.specs.Tag.{tag_of, tag_number};
 
-#[derive(Clone, Copy)]
+#[derive(Clone, Copy, Debug, PartialEq, Eq)]
 pub enum Tag {
     Frame,
     Note,
@@ -10,7 +10,7 @@ pub enum Tag {
 }
 
 // A tag of another's, whose field is skipped.
-#[derive(Clone, Copy)]
+#[derive(Clone, Copy, Debug, PartialEq, Eq)]
 pub struct UnknownTag;
 
 impl TryFrom<u8> for Tag {

@@ -1,6 +1,5 @@
 use Rattle.std.proofs.Common.{sym, arith}
 use Rattle.std.proofs.lemmas.Result.{err_from_is_err_and}
-use Rattle.codec.proofs.Inverse.{header_got}
 use Rattle.codec.proofs.Stands.{bytes_of}
 use Rattle.reader.proofs.FrameLaws.{accepted, rewrite_done, rewrite_small, rewrite_refused}
 use Rattle.reader.proofs.copy.rewrite.Goals as goal
@@ -18,9 +17,6 @@ returns-then-out-frame-clause-value c = (rewrite_small _ _ (sym c.in_ok-header.e
 
 pub returns-then-out-frame-clause-out_after : goal.returns-then-out-frame-clause-out_after
 returns-then-out-frame-clause-out_after c = (rewrite_small _ _ (sym c.in_ok-header.ensures) c.if-out-frame.true).1
-
-pub rewrite_items-requires-clause-first_in_bounds : goal.rewrite_items-requires-clause-first_in_bounds
-rewrite_items-requires-clause-first_in_bounds c = (header_got _ (accepted _ (sym c.in_ok-header.ensures)).0).long
 
 pub rewrite_items-requires-clause-clean : goal.rewrite_items-requires-clause-clean
 rewrite_items-requires-clause-clean c = (accepted _ (sym c.in_ok-header.ensures)).1
