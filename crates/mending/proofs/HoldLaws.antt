@@ -1,6 +1,6 @@
 -- Laws of what is held of the field under way. Assumes nothing.
 use Prim.Native.Nat.{ℕ, zero, suc, ◌+◌, ◌-◌, ◌≤◌}
-use mathlib.Core.Path.{◌≡◌, refl, ◌∙◌, ap}
+use mathlib.Core.Path.{◌≡◌, ◌∙◌, ap}
 use mathlib.Core.Bool.{Bool, true, false}
 use mathlib.Core.List.{List, [], ◌∷◌}
 use native.Mathlib.Omega.{arith}
@@ -14,9 +14,7 @@ use Rattle.recording.specs.Pieces.{fresh, size_of, sound_of, head_byte, headed_o
 use Rattle.recording.specs.declared.pieces.Place.{Place}
 use Rattle.recording.specs.declared.pieces.Step.{Step}
 use Rattle.recording.proofs.PlaceLaws.{used_is, place_short}
-use Rattle.recording.specs.declared.field.Field.{Field}
-use Rattle.mending.specs.Copy.{stays}
-use Rattle.mending.specs.Calls.{held_of, kept_in}
+use Rattle.mending.specs.Calls.{held_of}
 
 -- a place of bytes stays one
 get_byte : (s : List ℕ) (i d : ℕ) → Bytes s → d ≤ 255 → get_or s i d ≤ 255

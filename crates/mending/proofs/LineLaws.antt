@@ -1,6 +1,6 @@
 -- No line of a check is longer than 72 bytes, so that none is left out where as many are lent. Assumes nothing.
 use Prim.Native.Nat.{ℕ, ◌≤◌}
-use mathlib.Core.Path.{◌≡◌}
+use mathlib.Core.Path.{◌≡◌, refl, ◌∙◌}
 use mathlib.Core.Bool.{Bool, true, false}
 use mathlib.Core.List.{List, [], ◌∷◌}
 use native.Mathlib.Omega.{arith}
@@ -11,11 +11,11 @@ use Rattle.codec.specs.Choice.{pick}
 use Rattle.codec.specs.Number.{Wrote}
 use Rattle.std.specs.Prelude.{Option, Result, Ok, Err}
 use Rattle.text.specs.Draft.{row_of, rowed}
-use Rattle.text.proofs.DraftLaws.{row_most, row_put}
+use Rattle.text.proofs.DraftLaws.{row_is, row_most, row_put}
 use Rattle.recording.specs.Error.{number_of}
 use Rattle.recording.specs.declared.error.RecordError.{RecordError}
 use Rattle.recording.specs.declared.field.Found.{Found}
-use Rattle.mending.specs.Check.{found_line, rest_text, fields_line}
+use Rattle.mending.specs.Check.{name_of, found_line, rest_text, fields_line}
 use Rattle.mending.specs.declared.check.Tally.{Tally}
 
 most : (name vs : List ℕ) → length name ≤ 8 → length vs ≤ 3 → length (row_of name vs) ≤ 72
@@ -25,6 +25,25 @@ most name vs = row_most 8 3 name vs
 pub said : (name vs : List ℕ) {d l l' : List ℕ} {at : ℕ} {r : Option ℕ} → d ≡ rowed 128 name vs → Wrote true l at d l' r → length name ≤ 8 → length vs ≤ 3
     → Wrote true l at (row_of name vs) l' r
 said name vs e w p q = row_put 8 3 name vs e w p q (omega arith)
+
+pub row_said : (name vs : List ℕ) {d : List ℕ} → d ≡ rowed 128 name vs → length name ≤ 8 → length vs ≤ 3 → d ≡ row_of name vs
+row_said name vs e p q = e ∙ row_is 8 3 name vs p q (omega arith)
+
+-- the line of a field that is not bad
+name_most : (found : Found) → length (name_of found) ≤ 8
+name_most (Found.Frame h) = omega arith
+name_most Found.Note = omega arith
+name_most (Found.Start t) = omega arith
+name_most Found.Skipped = omega arith
+
+named_line : (tag n : ℕ) (found : Found) → row_of (name_of found) (tag ∷ n ∷ []) ≡ found_line tag n (Ok found)
+named_line tag n (Found.Frame h) = refl
+named_line tag n Found.Note = refl
+named_line tag n (Found.Start t) = refl
+named_line tag n Found.Skipped = refl
+
+pub named : (tag n : ℕ) (found : Found) {name d : List ℕ} → name ≡ name_of found → d ≡ rowed 128 name (tag ∷ n ∷ []) → d ≡ found_line tag n (Ok found)
+named tag n found e f = f ∙ rw e (row_is 8 3 (name_of found) (tag ∷ n ∷ []) (name_most found) (omega arith) (omega arith) ∙ named_line tag n found)
 
 pub rest_some : (n : ℕ) → (n ≡ 0 → ⊥) → rest_text n ≡ row_of (114 ∷ 101 ∷ 115 ∷ 116 ∷ []) (40 ∷ n ∷ [])
 unfolding rest_text

@@ -22,6 +22,13 @@ bad_line tag answer n = row_of (98 ∷ 97 ∷ 100 ∷ []) (tag ∷ answer ∷ n 
 abbrev pub unknown_line : ℕ → ℕ → List ℕ
 unknown_line tag n = row_of (117 ∷ 110 ∷ 107 ∷ 110 ∷ 111 ∷ 119 ∷ 110 ∷ []) (tag ∷ n ∷ [])
 
+-- the name of a field that is not bad
+abbrev pub name_of : Found → List ℕ
+name_of (Found.Frame h) = 103 ∷ 111 ∷ 111 ∷ 100 ∷ []
+name_of Found.Note = 103 ∷ 111 ∷ 111 ∷ 100 ∷ []
+name_of (Found.Start t) = 103 ∷ 111 ∷ 111 ∷ 100 ∷ []
+name_of Found.Skipped = 117 ∷ 110 ∷ 107 ∷ 110 ∷ 111 ∷ 119 ∷ 110 ∷ []
+
 -- of a field, by what it is found to be
 abbrev pub found_line : ℕ → ℕ → Result Found RecordError → List ℕ
 found_line tag n (Ok (Found.Frame h)) = good_line tag n

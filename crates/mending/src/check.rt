@@ -2,7 +2,7 @@
 ghost use Rattle.std.specs.Prelude.{◌≡◌, true};
 ghost use Rattle.codec.specs.Number.{Wrote};
 ghost use Rattle.recording.specs.Pieces.{sound_of};
-ghost use Rattle.mending.specs.Check.{found_line, rest_text, fields_line, tallied};
+ghost use Rattle.mending.specs.Check.{name_of, found_line, rest_text, fields_line, tallied};
 
 use recording::error::RecordError;
 use recording::field::{Field, Found};
@@ -35,15 +35,23 @@ pub fn count(tally: Tally, found: Result<Found, RecordError>) -> Tally
     }
 }
 
+fn name(found: Found) -> &'static [u8]
+    ensures { result.now ≡ name_of found }
+{
+    match found {
+        Found::Skipped => b"unknown",
+        _ => b"good",
+    }
+}
+
 fn said(field: Field) -> Line
     ensures { result ≡ found_line field.tag field.length field.found }
 {
-    let tag = u64::from(field.tag);
-    let length = u64::from(field.length);
+    let tag = field.tag as u64;
+    let length = field.length as u64;
     match field.found {
-        Ok(Found::Skipped) => Line::row(b"unknown", &[tag, length]),
-        Ok(_) => Line::row(b"good", &[tag, length]),
-        Err(why) => Line::row(b"bad", &[tag, u64::from(u8::from(why)), length]),
+        Ok(found) => Line::row(name(found), &[tag, length]),
+        Err(why) => Line::row(b"bad", &[tag, u8::from(why) as u64, length]),
     }
 }
 
@@ -70,6 +78,9 @@ pub fn rest(out: &mut [u8], at: usize, place: Place) -> Option<usize>
 pub fn fields(out: &mut [u8], at: usize, tally: Tally, place: Place) -> Option<usize>
     ensures { Wrote true out.old at (fields_line tally place.skipped) out.new result }
 {
-    let counts = [tally.good, tally.bad, place.skipped].map(u64::from);
-    Line::row(b"fields", &counts).put(out, at)
+    Line::row(
+        b"fields",
+        &[tally.good as u64, tally.bad as u64, place.skipped as u64],
+    )
+    .put(out, at)
 }
