@@ -1,11 +1,12 @@
 -- Laws of a fixed number of digits, over the base and the width. Assumes nothing.
-use Prim.Native.Nat.{ℕ, zero, suc, ◌+◌, ◌-◌, ◌/◌, ◌%◌, ◌≤◌, ◌<◌}
+use Prim.Native.Nat.{ℕ, zero, suc, ◌-◌, ◌/◌, ◌%◌, ◌≤◌, ◌<◌}
 use mathlib.Core.Path.{◌≡◌, refl, sym, ◌∙◌, ap}
 use mathlib.Core.List.{List, [], ◌∷◌, ◌++◌, append_assoc, append-nil}
 use native.Mathlib.Omega.{arith}
 use lib.ListN.{length, drop, set, length-append, length-set, drop_of_length-le}
 use Rattle.text.proofs.PutLaws.{stored}
-use Rattle.listing.specs.Line.{capital_of, fixed_of}
+use Rattle.text.specs.Put.{capital_of}
+use Rattle.listing.specs.Line.{fixed_of}
 
 pub fixed_length : (base n v : ℕ) → length (fixed_of base n v) ≡ n
 unfolding fixed_of
@@ -23,19 +24,21 @@ pub record Fixing (base n v : ℕ) (out : List ℕ) (x i : ℕ) : Type 0 where
 pub fixing_first : (base n v : ℕ) (out : List ℕ) → length out ≡ n → Fixing base n v out v n
 fixing_first base n v out e = record { most = omega arith; size = e; left = rw (drop_of_length-le out {i = n} (omega arith), append-nil) }
 
-pub fixing_more : {base n v : ℕ} {out : List ℕ} {x i : ℕ} (b : ℕ) → Fixing base n v out x i → 0 < i → b ≡ capital_of (x % base)
+pub fixing_more : {base n v : ℕ} {out : List ℕ} {x i : ℕ} (b : ℕ) → Fixing base n v out x i → 0 < i → 1 ≤ base → base ≤ 16 → b ≡ capital_of (x % base % 16)
     → Fixing base n v (set out (i - 1) b) (x / base) (i - 1)
 unfolding fixed_of
-fixing_more {base} {n} {v} {out} {x} {i} b s p e =
+fixing_more {base} {n} {v} {out} {x} {i} b s p lo hi e =
     let m = s.most in
     let z = s.size in
     let q : i ≡ suc (i - 1) = omega arith in
+    let d : x % base % 16 ≡ x % base = omega arith in
+    let f : b ≡ capital_of (x % base) = e ∙ ap capital_of d in
     let t : drop (i - 1) (set out (i - 1) b) ≡ b ∷ drop (suc (i - 1)) out = stored out (i - 1) b (omega arith) in
     record {
       most = omega arith;
       size = simp length-set z;
       left = s.left ∙ ap (λ (k : ℕ). fixed_of base k x ++ drop k out) q
-          ∙ rw (t, ← e) (append_assoc (fixed_of base (i - 1) (x / base)) (b ∷ []) (drop (suc (i - 1)) out));
+          ∙ rw (t, ← f) (append_assoc (fixed_of base (i - 1) (x / base)) (b ∷ []) (drop (suc (i - 1)) out));
     }
 
 pub fixing_end : {base n v : ℕ} {out : List ℕ} {x i : ℕ} → Fixing base n v out x i → i ≤ 0 → out ≡ fixed_of base n v

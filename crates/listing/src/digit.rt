@@ -1,19 +1,9 @@
 // A fixed number of digits, upper-case. Without its leading zeros a fraction of a second would be another one.
-ghost use Rattle.std.specs.Prelude.{◌≡◌, ◌+◌, ◌*◌, ◌<◌, ◌≤◌, length};
+ghost use Rattle.std.specs.Prelude.{◌≡◌, ◌+◌, ◌*◌, ◌≤◌, length};
 ghost use Rattle.text.specs.Short.{Short};
-ghost use Rattle.listing.specs.Line.{capital_of, fixed_of, spread};
+ghost use Rattle.listing.specs.Line.{fixed_of, spread};
 
-#[tactic(auto, unfolding(crate::specs::Line::capital_of))]
-fn capital(v: u64) -> u8
-    requires { v < 16 }
-    ensures { result ≡ capital_of v }
-{
-    if v < 10 {
-        (v + 48) as u8
-    } else {
-        (v + 55) as u8
-    }
-}
+use text::digit::{Case, written};
 
 // The low digits of v, from the last to the first: one function for every base and width.
 pub(crate) fn fixed<const BASE: u64, const WIDTH: usize>(v: u64) -> [u8; WIDTH]
@@ -24,7 +14,7 @@ pub(crate) fn fixed<const BASE: u64, const WIDTH: usize>(v: u64) -> [u8; WIDTH]
     let mut digits = [0; WIDTH];
     let mut x = v;
     for i in (0..WIDTH).rev() {
-        digits[i] = capital(x % BASE);
+        digits[i] = written((x % BASE) as u8, Case::Upper);
         x /= BASE;
     }
     digits

@@ -4,8 +4,6 @@ ghost use Rattle.codec.specs.Number.{Wrote, Sized};
 ghost use Rattle.text.specs.Short.{Short};
 ghost use Rattle.listing.specs.Line.{plain, escape_of, spread, note_fits, note_line};
 
-use codec::number::Put;
-
 // A byte that stands for itself. A backslash (92) starts an escape, so it is escaped too.
 #[tactic(auto, unfolding(crate::specs::Line::plain))]
 fn plain(b: u8) -> bool
@@ -51,11 +49,10 @@ fn fits(src: &[u8], room: usize) -> bool
 {
     let mut left = room;
     for &b in src {
-        let n = width(b);
-        if left < n {
+        let Some(less) = left.checked_sub(width(b)) else {
             return false;
-        }
-        left -= n;
+        };
+        left = less;
     }
     true
 }
@@ -72,21 +69,15 @@ fn lay_bytes(out: &mut [u8], at: usize, src: &[u8]) -> usize
 }
 
 #[tactic(auto, unfolding(crate::specs::Line::note_line))]
-pub fn note(out: &mut [u8], at: usize, text: &[u8]) -> Put
+pub fn note(out: &mut [u8], at: usize, text: &[u8]) -> Option<usize>
     ensures { Wrote true out.old at (note_line text.now) out.new result }
 {
     // The name, its space and the line feed are six.
-    let most = out.len();
-    if most < 6 {
-        return Put::Nothing;
-    }
-    if most - 6 < at {
-        return Put::Nothing;
-    }
-    if !fits(text, most - 6 - at) {
-        return Put::Nothing;
+    let room = out.len().checked_sub(at)?.checked_sub(6)?;
+    if !fits(text, room) {
+        return None;
     }
     let a = lay(out, at, b"note ");
     let b = lay_bytes(out, a, text);
-    Put::Next(lay(out, b, b"\n"))
+    Some(lay(out, b, b"\n"))
 }

@@ -10,12 +10,10 @@ use crate::word;
 use crate::word::Line;
 use codec::header::Header;
 use codec::item::Item;
-use codec::number::Put;
 use codec::time::Time;
-use tape::Microphone;
 
 #[tactic(auto, unfolding(crate::specs::Line::frame_line))]
-pub fn frame(out: &mut [u8], at: usize, h: Header) -> Put
+pub fn frame(out: &mut [u8], at: usize, h: Header) -> Option<usize>
     ensures { Wrote true out.old at (frame_line h) out.new result }
 {
     let mut line = Line::new();
@@ -28,7 +26,7 @@ pub fn frame(out: &mut [u8], at: usize, h: Header) -> Put
 }
 
 #[tactic(auto, unfolding(crate::specs::Line::start_line))]
-pub fn start(out: &mut [u8], at: usize, t: Time) -> Put
+pub fn start(out: &mut [u8], at: usize, t: Time) -> Option<usize>
     ensures { Wrote true out.old at (start_line t) out.new result }
 {
     let mut line = Line::new();
@@ -38,32 +36,32 @@ pub fn start(out: &mut [u8], at: usize, t: Time) -> Put
     line.put(out, at)
 }
 
-pub fn refused(out: &mut [u8], at: usize, tag: u8, answer: u8) -> Put
+pub fn refused(out: &mut [u8], at: usize, tag: u8, answer: u8) -> Option<usize>
     ensures { Wrote true out.old at (refused_line tag answer) out.new result }
 {
     Line::row(b"refused", &[tag as u64, answer as u64]).put(out, at)
 }
 
-pub fn skipped(out: &mut [u8], at: usize, tag: u8, length: u16) -> Put
+pub fn skipped(out: &mut [u8], at: usize, tag: u8, length: u16) -> Option<usize>
     ensures { Wrote true out.old at (skipped_line tag length) out.new result }
 {
     Line::row(b"skipped", &[tag as u64, length as u64]).put(out, at)
 }
 
-pub fn end(out: &mut [u8], at: usize, answer: u8, skipped: u32) -> Put
+pub fn end(out: &mut [u8], at: usize, answer: u8, skipped: u32) -> Option<usize>
     ensures { Wrote true out.old at (end_line answer skipped) out.new result }
 {
     Line::row(b"end", &[answer as u64, skipped as u64]).put(out, at)
 }
 
 #[tactic(auto, unfolding(crate::specs::Line::place_text))]
-fn place(line: &mut Line, microphone: Microphone, t: Time, it: Item)
+fn place(line: &mut Line, start: Option<Time>, t: Time, it: Item)
     requires { length line.old + 85 ≤ 256 }
-    ensures { Adds 85 line.old (place_text microphone t it) line.new }
+    ensures { Adds 85 line.old (place_text start t it) line.new }
 {
     word::lay(line, b" ");
     word::time(line, t);
-    word::position(line, microphone, t);
+    word::position(line, start, t);
     word::bus(line, it.ident);
     word::field(line, it.network as u64);
 }
@@ -81,34 +79,27 @@ fn shown(line: &mut Line, it: Item, n: usize)
 
 // What stands before an item's bytes.
 #[tactic(auto, unfolding(crate::specs::Line::front_text))]
-fn front(line: &mut Line, microphone: Microphone, t: Time, it: Item, n: usize)
+fn front(line: &mut Line, start: Option<Time>, t: Time, it: Item, n: usize)
     requires { length line.old + 161 ≤ 256 }
-    ensures { Adds 161 line.old (front_text microphone t it n) line.new }
+    ensures { Adds 161 line.old (front_text start t it n) line.new }
 {
-    place(line, microphone, t, it);
+    place(line, start, t, it);
     shown(line, it, n);
 }
 
 // A slice may be of any length, so the room is asked for first and the bytes are written straight to the
 // output.
-fn with_bytes(out: &mut [u8], at: usize, front: &[u8], src: &[u8]) -> Put
+fn with_bytes(out: &mut [u8], at: usize, front: &[u8], src: &[u8]) -> Option<usize>
     requires { length front.now ≤ 256 }
     ensures { Wrote true out.old at (front.now ++ spread (fixed_of 16 2) src.now ++ (10 ∷ [])) out.new result }
 {
-    let most = out.len();
-    let short = front.len() + 1;
-    if most < short {
-        return Put::Nothing;
-    }
-    if most - short < at {
-        return Put::Nothing;
-    }
-    if (most - short - at) / 2 < src.len() {
-        return Put::Nothing;
+    let room = out.len().checked_sub(at)?.checked_sub(front.len() + 1)?;
+    if room / 2 < src.len() {
+        return None;
     }
     let a = crate::escape::lay(out, at, front);
     let b = crate::digit::bytes(out, a, src);
-    Put::Next(crate::escape::lay(out, b, b"\n"))
+    Some(crate::escape::lay(out, b, b"\n"))
 }
 
 fn carried(carries: bool, payload: &[u8]) -> &[u8]
@@ -120,17 +111,17 @@ fn carried(carries: bool, payload: &[u8]) -> &[u8]
 pub fn item(
     out: &mut [u8],
     at: usize,
-    microphone: Microphone,
+    start: Option<Time>,
     time: Time,
     it: Item,
     payload: &[u8],
-) -> Put
-    ensures { Wrote true out.old at (item_line microphone time it payload.now) out.new result }
+) -> Option<usize>
+    ensures { Wrote true out.old at (item_line start time it payload.now) out.new result }
 {
     let mut line = Line::new();
-    front(&mut line, microphone, time, it, payload.len());
+    front(&mut line, start, time, it, payload.len());
     let bytes = carried(it.carries, payload);
-    if bytes.len() == 0 {
+    if bytes.is_empty() {
         word::lay(&mut line, b"-\n");
         return line.put(out, at);
     }

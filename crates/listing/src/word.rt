@@ -6,9 +6,8 @@ ghost use Rattle.text.specs.Put.{decimal_of};
 ghost use Rattle.listing.specs.Line.{dash, field_text, hex_text, time_text, sign_text, signed_text, placed_text, position_text, kind_text, is_fd, bus_text, can_text, channels_text, flexray_text, error_text, ident_text, state_text, load_text};
 
 use codec::ident::{Ident, Kind};
-use codec::item::State;
 use codec::time::Time;
-use tape::{Microphone, Placed};
+use tape::TooFar;
 use text::draft::Draft;
 
 pub(crate) type Line = Draft<256>;
@@ -84,23 +83,23 @@ fn signed(line: &mut Line, n: i64)
     number(line, n.unsigned_abs());
 }
 
-fn placed(line: &mut Line, p: Placed)
+pub(crate) fn position(line: &mut Line, start: Option<Time>, t: Time)
     requires { length line.old + 22 ≤ 256 }
-    ensures { Adds 22 line.old (placed_text p) line.new }
+    ensures { Adds 22 line.old (position_text start t) line.new }
 {
-    match p {
-        Placed::Sample(n) => signed(line, n),
-        Placed::Refused(_) => dash(line),
+    match start {
+        Some(start) => placed(line, tape::position(start, t)),
+        None => dash(line),
     }
 }
 
-pub(crate) fn position(line: &mut Line, microphone: Microphone, t: Time)
+fn placed(line: &mut Line, sample: Result<i64, TooFar>)
     requires { length line.old + 22 ≤ 256 }
-    ensures { Adds 22 line.old (position_text microphone t) line.new }
+    ensures { Adds 22 line.old (placed_text sample) line.new }
 {
-    match microphone {
-        Microphone::Silent => dash(line),
-        Microphone::Since(start) => placed(line, tape::position(start, t)),
+    match sample {
+        Ok(n) => signed(line, n),
+        Err(TooFar) => dash(line),
     }
 }
 
@@ -213,13 +212,13 @@ pub(crate) fn ident(line: &mut Line, id: Ident)
     }
 }
 
-pub(crate) fn state(line: &mut Line, s: State)
+pub(crate) fn state(line: &mut Line, shown: Option<u8>)
     requires { length line.old + 9 ≤ 256 }
-    ensures { Adds 9 line.old (state_text s) line.new }
+    ensures { Adds 9 line.old (state_text shown) line.new }
 {
-    match s {
-        State::Byte(b) => hex::<2>(line, b as u64),
-        State::Absent => dash(line),
+    match shown {
+        Some(state) => hex::<2>(line, state as u64),
+        None => dash(line),
     }
 }
 
