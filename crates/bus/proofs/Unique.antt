@@ -4,7 +4,6 @@ use Rattle.bus.proofs.filter.low16.Reads as low16
 use Rattle.bus.proofs.filter.filter_matches.Reads as filter-matches
 use Rattle.bus.proofs.filter.filtered.Reads as filtered
 use Rattle.bus.proofs.filter.is_free.Reads as is_free
-use Rattle.bus.proofs.filter.same_kind.Reads as same_kind
 use Rattle.bus.proofs.filter.can_mask.Reads as can-mask
 use Rattle.bus.proofs.filter.can_range.Reads as can-range
 use Rattle.bus.proofs.filter.lin_mask.Reads as lin-mask
@@ -19,7 +18,6 @@ use Rattle.bus.proofs.report.report_cause.Reads as report-cause
 use Rattle.bus.proofs.report.offer.Reads as offer
 use Rattle.bus.proofs.report.settle.Reads as settle
 use Rattle.bus.proofs.source.fresh.Reads as fresh
-use Rattle.bus.proofs.source.first.Reads as first
 use Rattle.bus.proofs.source.Source.reset.Reads as reset
 use Rattle.bus.proofs.source.Source.start.Reads as start
 use Rattle.bus.proofs.source.Source.stop.Reads as stop
@@ -50,9 +48,6 @@ filtered_unique κs a r r' x x' p q = p ∙ sym q
 
 pub is_free_unique : (κs : _) (a : _) (r r' : _) (x x' : _) → is_free.Post κs a r x → is_free.Post κs a r' x' → r ≡ r'
 is_free_unique κs a r r' x x' p q = p ∙ sym q
-
-pub same_kind_unique : (κs : _) (a : _) (r r' : _) (x x' : _) → same_kind.Post κs a r x → same_kind.Post κs a r' x' → r ≡ r'
-same_kind_unique κs a r r' x x' p q = p ∙ sym q
 
 pub can_mask_unique : (κs : _) (a : _) (r r' : _) (x x' : _) → can-mask.Post κs a r x → can-mask.Post κs a r' x' → r ≡ r'
 can_mask_unique κs a r r' x x' p q = p ∙ sym q
@@ -95,9 +90,6 @@ settle_unique κs a r r' x x' p q = p ∙ sym q
 
 pub fresh_unique : (κs : _) (a : _) (r r' : _) (x x' : _) → fresh.Post κs a r x → fresh.Post κs a r' x' → r ≡ r'
 fresh_unique κs a r r' x x' p q = p ∙ sym q
-
-pub first_unique : (κs : _) (a : _) (r r' : _) (x x' : _) → first.Post κs a r x → first.Post κs a r' x' → r ≡ r'
-first_unique κs a r r' x x' p q = p ∙ sym q
 
 pub reset_unique : (κs : _) (a : _) (r r' : _) (x x' : _) → reset.Post κs a r x → reset.Post κs a r' x' → r ≡ r'
 reset_unique κs a r r' x x' p q = p ∙ sym q

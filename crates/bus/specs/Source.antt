@@ -1,8 +1,10 @@
 -- A source (docs/RULES.md, "The engine", "Filters", rules 4 and 6).
-use Rattle.std.specs.Prelude.{ℕ, suc, Bool, true, false, not, ◌&&◌, ◌||◌, List, [], ◌∷◌, replicate, get_or, set, leb, ltb, eqb}
+use Rattle.std.specs.Prelude.{ℕ, suc, Bool, true, false, not, ◌&&◌, ◌||◌, List, [], ◌∷◌, replicate, get_or, set, ltb, eqb, Result, Ok}
 use Rattle.codec.specs.Choice.{pick}
 use Rattle.codec.specs.declared.ident.Kind.{Kind}
 use Rattle.codec.specs.declared.ident.Ident.{Ident}
+use Rattle.framer.specs.Cause.{guard}
+use Rattle.framer.specs.declared.cause.Cause.{Cause}
 use Rattle.framer.specs.declared.offer.Offer.{Offer}
 use Rattle.bus.specs.Filter.{matches, is_free, same_kind}
 use Rattle.bus.specs.declared.filter.Filter.{Filter}
@@ -70,13 +72,13 @@ free_at [] = 0
 free_at (p ∷ ps) = pick (is_free p.filter) 0 (suc (free_at ps))
 
 -- filter adding: 2, 4, 9, 10
-unfoldable pub add_cause : ℕ → Source → Addition → ℕ
+unfoldable pub add_cause : ℕ → Source → Addition → Result Unit Cause
 add_cause count s a =
-    pick (leb count a.source) 2
-    (pick (not (same_kind s.kind a.kind)) 4
-    (pick (not a.good) 9
-    (pick (eqb (free_at s.places) 8) 10
-    0)))
+    guard (ltb a.source count) Cause.NoSource
+    (guard (same_kind s.kind a.kind) Cause.OtherKind
+    (guard a.good Cause.BadFilter
+    (guard (ltb (free_at s.places) 8) Cause.NoPlace
+    (Ok tt))))
 
 -- the same source with other places
 abbrev pub with_places : Source → List Place → Source
@@ -97,8 +99,11 @@ unfoldable pub added_filter : Source → Filter → Source
 added_filter s f = pick (ltb (free_at s.places) 8) (with_places s (set s.places (free_at s.places) (record { filter = f }))) s
 
 -- removing: 11, no such filter
-unfoldable pub remove_cause : Source → ℕ → ℕ
-remove_cause s number = pick (leb 8 number) 11 (pick (is_free (get_or s.places number free_place).filter) 11 0)
+unfoldable pub remove_cause : Source → ℕ → Result Unit Cause
+remove_cause s number =
+    guard (ltb number 8) Cause.NoFilter
+    (guard (not (is_free (get_or s.places number free_place).filter)) Cause.NoFilter
+    (Ok tt))
 
 -- a removed place is free again
 unfoldable pub removed_filter : Source → ℕ → Source

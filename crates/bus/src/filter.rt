@@ -2,7 +2,7 @@
 ghost use Rattle.std.specs.Prelude.{◌≡◌, false, ◌&&◌, ℕ, ◌%◌, leb};
 ghost use Rattle.codec.specs.declared.ident.Ident.TheVariants as Ident;
 ghost use Rattle.bus.specs.Source.{passes};
-ghost use Rattle.bus.specs.Filter.{keyed, slotted, matches, filtered, is_free, same_kind, can_mask, can_range, lin_mask, lin_range, slots_of, cycled};
+ghost use Rattle.bus.specs.Filter.{keyed, slotted, matches, filtered, is_free, can_mask, can_range, lin_mask, lin_range, slots_of, cycled};
 
 use codec::ident::{Ident, Kind};
 
@@ -213,13 +213,6 @@ pub fn is_free(f: Filter) -> bool
             repetition: _,
         } => false,
     }
-}
-
-#[tactic(auto, unfolding(crate::specs::Filter::same_kind))]
-pub fn same_kind(a: Kind, b: Kind) -> bool
-    ensures { result ≡ same_kind a b }
-{
-    codec::ident::network_type(a) == codec::ident::network_type(b)
 }
 
 #[tactic(auto, unfolding(crate::specs::Filter::can_mask))]

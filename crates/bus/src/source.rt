@@ -1,11 +1,11 @@
 // A source: what it is, its state byte, what of it was shown, and its eight filter places.
 ghost use Rattle.std.specs.Prelude.{◌≡◌};
-ghost use Rattle.codec.specs.Choice.{pick};
 ghost use Rattle.codec.specs.Number.{Below};
 ghost use Rattle.bus.specs.Source.{fresh_source, reset_source, started_source, stopped_source, passes, free_at, add_cause, added_filter, remove_cause, removed_filter, due, tick_due, state_offer, calmed};
 
 use crate::filter::{Addition, Filter, Place};
 use codec::ident::{Ident, Kind};
+use framer::cause::{Cause, check};
 use framer::offer::Offer;
 
 #[derive(Clone, Copy)]
@@ -42,13 +42,6 @@ pub fn fresh(kind: Kind, network: u8) -> Source
         heard: false,
         places: [place; 8],
     }
-}
-
-// The first of several tests that holds gives the answer.
-pub fn first(bad: bool, answer: u8, rest: u8) -> u8
-    ensures { result ≡ pick bad answer rest }
-{
-    if bad { answer } else { rest }
 }
 
 impl Source {
@@ -117,16 +110,14 @@ impl Source {
     }
 
     // 2, 4, 9, 10
-    #[tactic(auto, unfolding(crate::specs::Source::add_cause))]
-    pub fn add_cause(self, count: usize, a: Addition) -> u8
+    #[tactic(auto, unfolding(crate::specs::Source::add_cause, crate::specs::Filter::same_kind))]
+    pub fn add_cause(self, count: usize, a: Addition) -> Result<(), Cause>
         ensures { result ≡ add_cause count self a }
     {
-        let own = self.kind;
-        let other = a.kind;
-        let full = first(self.free_place() == 8, 10, 0);
-        let range = first(!a.good, 9, full);
-        let kind = first(!crate::filter::same_kind(own, other), 4, range);
-        first(count as u64 <= a.source, 2, kind)
+        check(a.source < count as u64, Cause::NoSource)?;
+        check(self.kind == a.kind, Cause::OtherKind)?;
+        check(a.good, Cause::BadFilter)?;
+        check(self.free_place() < 8, Cause::NoPlace)
     }
 
     // The filter goes to the lowest free place, if there is one.
@@ -144,15 +135,13 @@ impl Source {
 
     // 11
     #[tactic(auto, unfolding(crate::specs::Source::remove_cause))]
-    pub fn remove_cause(self, number: u64) -> u8
+    pub fn remove_cause(self, number: u64) -> Result<(), Cause>
         ensures { result ≡ remove_cause self number }
     {
-        if 8 <= number {
-            return 11;
-        }
+        check(number < 8, Cause::NoFilter)?;
         let place = self.places[number as usize];
         let filter = place.filter;
-        first(crate::filter::is_free(filter), 11, 0)
+        check(!crate::filter::is_free(filter), Cause::NoFilter)
     }
 
     #[tactic(auto, unfolding(crate::specs::Source::removed_filter))]
@@ -203,7 +192,7 @@ impl Source {
         ensures { result ≡ calmed self }
     {
         let shows = self.tick_due();
-        self.shown = first(shows, self.state, self.shown);
+        self.shown = if shows { self.state } else { self.shown };
         self.told = self.told | shows;
         self.heard = false;
         self

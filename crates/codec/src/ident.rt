@@ -3,7 +3,7 @@ ghost use Rattle.std.specs.Prelude.{◌≡◌};
 ghost use Rattle.codec.specs.Ident.{network_type, kind_in, kind_of, can_zero, can_range, can_fd, pid_ok, channels_ok, flexray_range, ident_ok, can_most, most_of};
 ghost use Rattle.codec.specs.Number.{Below};
 
-#[derive(Clone, Copy)]
+#[derive(Clone, Copy, PartialEq, Eq)]
 pub enum Kind {
     Can,
     Lin,
