@@ -1,12 +1,13 @@
 // Setup, switch and offline.
 ghost use Rattle.std.specs.Prelude.{◌≡◌, map, ◌≤◌, length, drop};
 ghost use Rattle.bus.specs.Source.{reset_source};
-ghost use Rattle.mirror.specs.Setup.{kind_numbered, source_numbered, pair_ok, named_again, pairs_ok, sources_ok, named, reset_of, setup_of, switch_of, offline_of};
+ghost use Rattle.mirror.specs.Setup.{kind_numbered, source_numbered, pair_ok, named_again, pairs_ok, sources_ok, named, reset_of, setup_cause, setup_of, switch_cause, switch_of, offline_of};
 
 use crate::engine::{Engine, Outcome};
 use bus::source::Source;
 use codec::ident::Kind;
 use codec::time::Millis;
+use framer::cause::{Cause, check};
 
 // Network type 1, 2 or 3; the caller has refused every other.
 #[tactic(auto, unfolding(crate::specs::Setup::kind_numbered))]
@@ -121,23 +122,21 @@ fn reset_all(before: [Source; 8]) -> [Source; 8]
 
 impl Engine {
     // 14
-    #[tactic(auto, unfolding(crate::specs::Engine::sound_of, crate::specs::Setup::setup_of))]
-    pub fn setup(mut self, size: u64, room: u64, deadline: u64, pairs: &[u32]) -> Outcome
+    #[tactic(auto, unfolding(crate::specs::Setup::setup_cause, crate::specs::Engine::cause_of))]
+    fn may_set_up(self, size: u64, room: u64, deadline: u64, pairs: &[u32]) -> Result<(), Cause>
+        ensures { result ≡ setup_cause self size room deadline pairs.now }
+    {
+        self.sound()?;
+        let limits = framer::meter::limits_ok(size, room, deadline);
+        check((self.count == 0) & limits & sources_ok(pairs), Cause::BadSetup)
+    }
+
+    #[tactic(auto, unfolding(crate::specs::Setup::setup_of))]
+    pub fn setup(mut self, size: u64, room: u64, deadline: u64, pairs: &[u32]) -> Outcome<()>
         ensures { result ≡ setup_of self size room deadline pairs.now }
     {
-        let m = self.framer.meter;
-        if !crate::engine::sound(self.count, m) {
-            return Outcome {
-                engine: self,
-                answer: 19,
-            };
-        }
-        let limits = framer::meter::limits_ok(size, room, deadline);
-        if !((self.count == 0) & limits & sources_ok(pairs)) {
-            return Outcome {
-                engine: self,
-                answer: 14,
-            };
+        if let Err(cause) = self.may_set_up(size, room, deadline, pairs) {
+            return self.refused(cause);
         }
         self.count = pairs.len() / 2;
         let sources = named(pairs, crate::engine::no_sources());
@@ -145,7 +144,7 @@ impl Engine {
         self.framer = framer::framer::empty(size as usize, room as usize, Millis(deadline as u16));
         Outcome {
             engine: self,
-            answer: 0,
+            answer: Ok(()),
         }
     }
 
@@ -160,50 +159,43 @@ impl Engine {
     }
 
     // 14
-    #[tactic(auto, unfolding(crate::specs::Engine::sound_of, crate::specs::Setup::switch_of))]
-    pub fn switch(self, size: u64, room: u64, deadline: u64) -> Outcome
+    #[tactic(auto, unfolding(crate::specs::Setup::switch_cause, crate::specs::Engine::cause_of))]
+    fn may_switch(self, size: u64, room: u64, deadline: u64) -> Result<(), Cause>
+        ensures { result ≡ switch_cause self size room deadline }
+    {
+        self.sound()?;
+        let limits = framer::meter::limits_ok(size, room, deadline);
+        check((self.count != 0) & limits, Cause::BadSetup)
+    }
+
+    #[tactic(auto, unfolding(crate::specs::Setup::switch_of))]
+    pub fn switch(self, size: u64, room: u64, deadline: u64) -> Outcome<()>
         ensures { result ≡ switch_of self size room deadline }
     {
-        let m = self.framer.meter;
-        if !crate::engine::sound(self.count, m) {
-            return Outcome {
-                engine: self,
-                answer: 19,
-            };
-        }
-        let limits = framer::meter::limits_ok(size, room, deadline);
-        if !((self.count != 0) & limits) {
-            return Outcome {
-                engine: self,
-                answer: 14,
-            };
+        if let Err(cause) = self.may_switch(size, room, deadline) {
+            return self.refused(cause);
         }
         Outcome {
             engine: self.reset(size as usize, room as usize, Millis(deadline as u16)),
-            answer: 0,
+            answer: Ok(()),
         }
     }
 
-    #[tactic(auto, unfolding(crate::specs::Engine::sound_of, crate::specs::Setup::offline_of))]
-    pub fn offline(self) -> Outcome
+    #[tactic(auto, unfolding(crate::specs::Setup::offline_of))]
+    pub fn offline(self) -> Outcome<()>
         ensures { result ≡ offline_of self }
     {
+        let answer = self.sound();
+        if answer.is_err() | (self.count == 0) {
+            return Outcome {
+                engine: self,
+                answer,
+            };
+        }
         let m = self.framer.meter;
-        if !crate::engine::sound(self.count, m) {
-            return Outcome {
-                engine: self,
-                answer: 19,
-            };
-        }
-        if self.count == 0 {
-            return Outcome {
-                engine: self,
-                answer: 0,
-            };
-        }
         Outcome {
             engine: self.reset(m.size, m.room, m.deadline),
-            answer: 0,
+            answer,
         }
     }
 }
