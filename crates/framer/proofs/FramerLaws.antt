@@ -3,7 +3,7 @@ use Rattle.std.proofs.Common.{◌≡◌, ℕ, ◌+◌, ◌-◌, ◌*◌, ◌/◌
 use mathlib.Core.Bool.{false≢true}
 use Rattle.codec.specs.Choice.{pick}
 use Rattle.codec.proofs.BoolLaws.{and_l, and_r}
-use borrow.Author.Tests.{lt-leb}
+use borrow.Author.Tests.{lt-leb, eqb-false, not-true}
 use Rattle.codec.specs.Time.{ns, elapsed, ticks_of, behind_by, overdue_of}
 use Rattle.codec.specs.Item.{item_length}
 use Rattle.codec.specs.declared.time.Time.{Time}
@@ -13,7 +13,7 @@ use Rattle.codec.specs.Number.{over, fits, Wrote}
 use Rattle.framer.specs.declared.cause.Cause.{Cause}
 use Rattle.framer.specs.declared.queue.Queue.{Queue}
 use Rattle.std.specs.Prelude.{Result, Ok, Err}
-use Rattle.framer.specs.Cause.{guard}
+use Rattle.framer.specs.Cause.{number_of, answer_of, guard}
 use Rattle.framer.specs.Queue.{queued, length_at}
 use Rattle.framer.specs.Meter.{closes_for, is_within, back_in, item_of, sound_meter, Sound, start_of, closed_meter, slot_of, counted, placed_meter, taken_meter, failed_meter, offset_for}
 use Rattle.framer.specs.Framer.{closed, begun, laid_out, item_size, filled_meter, filled_bytes, placed, added, add, passed, ready_of, take_of, out_of}
@@ -209,9 +209,33 @@ part_length s at n = go (fits s at n) refl
     go true e = rw e (omega (arith, length-take n (drop at s)))
     go false e = rw e (omega arith)
 
+-- a cause has a number above 0
+pub caused : (c : Cause) → 1 ≤ number_of c
+caused Cause.Unmatched = omega arith
+caused Cause.NoSource = omega arith
+caused Cause.NotStarted = omega arith
+caused Cause.OtherKind = omega arith
+caused Cause.OutOfRange = omega arith
+caused Cause.PayloadTooLong = omega arith
+caused Cause.BadTime = omega arith
+caused Cause.TooBig = omega arith
+caused Cause.BadFilter = omega arith
+caused Cause.NoPlace = omega arith
+caused Cause.NoFilter = omega arith
+caused Cause.ShortOutput = omega arith
+caused Cause.NothingWaits = omega arith
+caused Cause.BadSetup = omega arith
+caused Cause.NothingOut = omega arith
+caused Cause.Unsound = omega arith
+
+pub answered_0 : {A : Type 0} (r : Result A Cause) → answer_of r ≡ 0 → (x : A) × (r ≡ Ok x)
+answered_0 (Ok x) e = (x, refl)
+answered_0 (Err c) e = let z : ⊥ = omega (arith, caused c) in absurd z
+
 -- a frame that a take gets: the rule holds, and the output has room
 pub record Ready (w : Framer) (room n : ℕ) : Type 0 where
   pub sound : sound_meter w.meter ≡ true
+  pub waits : w.meter.waiting ≡ 0 → ⊥
   pub long : n ≡ length_at w.queue w.meter.first
   pub fits : n ≤ room
 
@@ -226,7 +250,7 @@ readied w room n e =
     let b = passed-guard (not (eqb w.meter.waiting 0)) Cause.NothingWaits _ n a.1 in
     let d = passed-guard (leb (length_at w.queue w.meter.first) room) Cause.ShortOutput _ n b.1 in
     let k : length_at w.queue w.meter.first ≡ n = search rules in
-    record { sound = a.0; long = sym k; fits = omega (arith, k, leb-true (length_at w.queue w.meter.first) room d.0) }
+    record { sound = a.0; waits = eqb-false w.meter.waiting 0 (not-true _ b.0); long = sym k; fits = omega (arith, k, leb-true (length_at w.queue w.meter.first) room d.0) }
 
 pub take_refused : (w : Framer) (out : List ℕ) (r : Result ℕ Cause) (c : Cause) → r ≡ ready_of w (length out) → r ≡ Err c
     → (record { framer = w; answer = r } ≡ take_of w (length out)) × (out ≡ out_of w out)

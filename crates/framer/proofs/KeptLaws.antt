@@ -196,7 +196,7 @@ kept_pass w t e = rw e (go (not (eqb w.meter.filled 0) && overdue_of (ns w.meter
     go false = e
 
 -- taking
-kept_taken : (m : Meter) → Sound m → Sound (taken_meter m)
+pub kept_taken : (m : Meter) → Sound m → Sound (taken_meter m)
 unfolding taken_meter
 kept_taken m s = go (eqb m.waiting 0) refl
   where

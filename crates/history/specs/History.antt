@@ -1,5 +1,5 @@
 -- What any sequence of calls leaves behind (demand 3), read through the reader's definitions.
-use Rattle.std.specs.Prelude.{ℕ, zero, suc, ◌+◌, ◌*◌, ◌%◌, ◌^◌, ◌≤◌, ◌<◌, ◌≡◌, ◌⊎◌, Bool, true, false, List, [], ◌∷◌, ◌++◌, map, reverse, length, eqb}
+use Rattle.std.specs.Prelude.{ℕ, zero, suc, ◌+◌, ◌*◌, ◌%◌, ◌^◌, ◌≤◌, ◌<◌, ◌≡◌, ◌⊎◌, Bool, true, false, List, [], ◌∷◌, ◌++◌, map, reverse, length, eqb, Ok}
 use Rattle.std.proofs.Math.ListN as ListN
 use Rattle.codec.specs.Choice.{pick}
 use Rattle.codec.specs.Number.{Bytes}
@@ -131,7 +131,7 @@ pub record History (c : Limits) (book : List Account) (ds : List Deed) (l : Ledg
   -- c: at each moment a frame closes exactly when rule 2 or 6 says, and is discarded exactly when Q wait; none closes empty
   pub closes : (before after : List Op) (op : Op) → ops_on book ds ≡ before ++ (op ∷ after)
       → Closes c (run_l c empty_ledger before) op (step_l c (run_l c empty_ledger before) op)
-  pub discards : (discards_of u).count ≡ discard_count l
+  pub discards : discards_of u ≡ Ok (discard_count l)
   pub filled : All (λ (k : Closed). k.frame.lines ≡ [] → ⊥) l.closed
   -- d: in `Reads`, for each line
   -- e: the lost bit stands exactly on the first item made after a discard or a failed send
@@ -146,7 +146,7 @@ pub record History (c : Limits) (book : List Account) (ds : List Deed) (l : Ledg
   -- answered 0, which is the number of frames marked as failed; there is a mark for each frame taken
   pub fails : (before after : List Deed) (d : Deed) → ds ≡ before ++ (d ∷ after) → d.call ≡ Call.failed
       → d.said.answer ≡ pick (is_out (ledger_of c book before).sends) 0 17
-  pub failures : (failures_of u).count ≡ failure_count l
+  pub failures : failures_of u ≡ Ok (failure_count l)
   pub called : failures_in l.sends ≡ failed_on ds
   pub marked : length l.sends ≡ length (frames_taken ds)
 
