@@ -1,29 +1,28 @@
 -- Encode after decode: what an accepted read found is there, byte for byte. Assumes nothing.
 use Prim.Native.Nat.{ℕ, ◌+◌, ◌-◌, ◌*◌, ◌/◌, ◌%◌, ◌≤◌, ◌<◌}
-use mathlib.Core.Path.{◌≡◌, refl}
+use mathlib.Core.Path.{◌≡◌, refl, ap}
 use mathlib.Core.Bool.{Bool, true, false, ◌||◌}
 use mathlib.Core.List.{List}
 use native.Mathlib.Omega.{arith}
 use lib.ListN.{length, take, get_or}
 use lib.Dec.{ltb, leb, eqb}
 use borrow.Author.Tests.{ltb-false, leb-true, eqb-true}
+use Rattle.std.specs.Prelude.{Option, Ok}
 use Rattle.codec.specs.Choice.{bit}
-use Rattle.codec.specs.Number.{word, Bytes, get8_of, get16_of}
+use Rattle.codec.specs.Number.{word, Bytes, get_of}
 use Rattle.codec.specs.Ident.{network_type, kind_of, ident_bit, most_of}
 use Rattle.codec.specs.Item.{state_bit, set_of, set_ok, alone_in, encode, item_ok}
 use Rattle.codec.specs.Field.{read_flags, read_state, read_ident, read_load, read_item, bytes_at}
 use Rattle.codec.specs.Header.{header_bytes, header_in, read_header}
 use Rattle.codec.specs.Layout.{Valid}
 use Rattle.codec.specs.declared.ident.Ident.{Ident}
-use Rattle.codec.specs.declared.item.State.{State}
 use Rattle.codec.specs.declared.item.Item.{Item}
-use Rattle.codec.specs.declared.field.ItemRead.{ItemRead}
+use Rattle.codec.specs.declared.field.Decoded.{Decoded}
 use Rattle.codec.specs.declared.header.Header.{Header}
-use Rattle.codec.specs.declared.header.HeaderRead.{HeaderRead}
 use Rattle.codec.proofs.Stands.{Stands, join, part_back, bytes-at, word_stands, word_below}
 use Rattle.codec.proofs.RoundTrip.{payload_place}
-use Rattle.codec.proofs.Opened.{never, chosen, passed, in8, in16, in_flags, in_state, in_ident, in_load}
-use Rattle.codec.proofs.FieldInverse.{both, byte_stands, took8, room16, took16, part_bytes, flags_got, state_got, ident_got, load_got}
+use Rattle.codec.proofs.Opened.{never, chosen, passed, in_some, in_ok, ok_is}
+use Rattle.codec.proofs.FieldInverse.{both, byte_stands, took8, room_got, took, part_bytes, flags_got, state_got, ident_got, load_got}
 
 -- the flags of a set that may be are the set again
 either : {G : Type 0} (a b : Bool) → (a || b) ≡ true → (a ≡ true → G) → (b ≡ true → G) → G
@@ -42,7 +41,7 @@ flags_are set e =
     is : (n : ℕ) → flags n ≡ n → eqb set n ≡ true → flags set ≡ set
     is n k f = rw (eqb-true set n f) k
 
-set_is : (set : ℕ) (state : State) (ident : Ident) → set_ok set ≡ true → state_bit state ≡ bit (eqb (set / 4 % 2) 1) → ident_bit ident ≡ bit (eqb (set / 2 % 2) 1)
+set_is : (set : ℕ) (state : Option ℕ) (ident : Ident) → set_ok set ≡ true → state_bit state ≡ bit (eqb (set / 4 % 2) 1) → ident_bit ident ≡ bit (eqb (set / 2 % 2) 1)
     → set_of state ident (eqb (set % 2) 1) ≡ set
 set_is set state ident e p q = rw (p, q) (flags_are set e)
 
@@ -56,30 +55,35 @@ record ItemGot (s : List ℕ) (at : ℕ) (it : Item) (start len next : ℕ) : Ty
   pub size : length (bytes_at s start len) ≡ len
   pub place : start ≡ payload_place at it
 
-item_got : (s : List ℕ) (at : ℕ) {it : Item} {start len next : ℕ} → read_item s at ≡ ItemRead.Got it start len next → ItemGot s at it start len next
+item_got : (s : List ℕ) (at : ℕ) {it : Item} {start len next : ℕ} → read_item s at ≡ Ok (record { item = it; start = start; len = len; next = next }) → ItemGot s at it start len next
 unfolding read_item encode item_ok
 item_got s at {it} {start} {len} {next} eq =
-    in16 (get16_of s at) _ _ eq (λ z. never (cc)) (λ ticks a p1 e1.
-    in_flags (read_flags s a) _ e1 (λ y z. never (cc)) (λ kind set b p2 e2.
-    in8 (get8_of s b) _ _ e2 (λ z. never (cc)) (λ network d p3 e3.
-    in_state (read_state s d kind (eqb (set / 4 % 2) 1)) _ e3 (λ y z. never (cc)) (λ state e p4 e4.
-    in_ident (read_ident s e kind (eqb (set / 2 % 2) 1) (alone_in set)) _ e4 (λ y z. never (cc)) (λ ident f p5 e5.
-    in_load (read_load s f (most_of ident) (eqb (set % 2) 1)) _ e5 (λ y z. never (cc)) (λ start' len' next' p6 e6.
-    let h : at + 2 ≤ length s = room16 s at p1 in
-    let t1 = took16 s at p1 in
-    let t2 = flags_got s a p2 in
-    let t3 = took8 s b p3 in
-    let t4 = state_got s d p4 in
-    let t5 = ident_got s e p5 in
-    let t6 = load_got s f p6 in
+    in_some (get_of 2 s at) _ _ eq (λ z. never (cc)) (λ x1 p1 e1.
+    in_ok (read_flags s x1.1) _ e1 (λ y z. never (cc)) (λ x2 p2 e2.
+    in_some (get_of 1 s x2.2) _ _ e2 (λ z. never (cc)) (λ x3 p3 e3.
+    in_ok (read_state s x3.1 x2.0 (eqb (x2.1 / 4 % 2) 1)) _ e3 (λ y z. never (cc)) (λ x4 p4 e4.
+    in_ok (read_ident s x4.1 x2.0 (eqb (x2.1 / 2 % 2) 1) (alone_in x2.1)) _ e4 (λ y z. never (cc)) (λ x5 p5 e5.
+    in_ok (read_load s x5.1 (most_of x5.0) (eqb (x2.1 % 2) 1)) _ e5 (λ y z. never (cc)) (λ load p6 e6.
+    let set : ℕ = x2.1 in
+    let state : Option ℕ = x4.0 in
+    let ident : Ident = x5.0 in
+    let h : at + 2 ≤ length s = room_got s at 2 (omega arith) p1 in
+    let t1 = took s at 2 (omega arith) p1 in
+    let t2 = flags_got s x1.1 p2 in
+    let t3 = took8 s x2.2 p3 in
+    let t4 = state_got s x3.1 p4 in
+    let t5 = ident_got s x4.1 p5 in
+    let t6 = load_got s x5.1 p6 in
     let c : Bool = eqb (set % 2) 1 in
     let g : set_of state ident c ≡ set = set_is set state ident t2.ok t4.here t5.here in
-    let m : set_of state ident c * 32 + network_type (kind_of ident) ≡ set * 32 + network_type kind = rw (g, t5.same) in
+    let m : set_of state ident c * 32 + network_type (kind_of ident) ≡ set * 32 + network_type x2.0 = rw (g, t5.same) in
     let all = both (both (both (both t1 (both (rw (← m) at t2.took) t3)) t4.took) t5.took) t6.took in
-    let i : ◌≡◌ {A = Item} (record { offset = record { 0 = ticks }; network = network; state = state; ident = ident; carries = c }) it = cc in
-    let x : start' ≡ start = cc in
-    let y : len' ≡ len = cc in
-    let w : next' ≡ next = cc in
+    let q = ok_is e6 in
+    let i : ◌≡◌ {A = Item} (record { offset = record { 0 = x1.0 }; network = x3.0; state = state; ident = ident; carries = c }) it
+    = ap (λ (d : Decoded). d.item) q in
+    let x : load.start ≡ start = ap (λ (d : Decoded). d.start) q in
+    let y : load.len ≡ len = ap (λ (d : Decoded). d.len) q in
+    let w : load.next ≡ next = ap (λ (d : Decoded). d.next) q in
     rw (← i, ← x, ← y, ← w) record {
       begins = omega arith;
       room = all.room (omega arith);
@@ -91,13 +95,13 @@ item_got s at {it} {start} {len} {next} eq =
         network = t3.within k;
         state = t4.took.within k;
         ident = t5.took.within k;
-        payload = part_bytes s start' len' k;
+        payload = part_bytes s load.start load.len k;
       };
       size = t6.size;
       place = omega arith;
     }))))))
 
-pub read_room : (s : List ℕ) (at : ℕ) {it : Item} {start len next : ℕ} → read_item s at ≡ ItemRead.Got it start len next → (at + 4 ≤ next) × (next ≤ length s)
+pub read_room : (s : List ℕ) (at : ℕ) {it : Item} {start len next : ℕ} → read_item s at ≡ Ok (record { item = it; start = start; len = len; next = next }) → (at + 4 ≤ next) × (next ≤ length s)
 read_room s at e = let g = item_got s at e in (g.begins, g.room)
 
 -- an item that was read from bytes is valid, and its bytes are those that were read
@@ -108,7 +112,7 @@ pub record Forth (s : List ℕ) (at : ℕ) (it : Item) (start len next : ℕ) : 
   pub size : length (bytes_at s start len) ≡ len
   pub place : start ≡ payload_place at it
 
-pub item_forth : (s : List ℕ) (at : ℕ) {it : Item} {start len next : ℕ} → Bytes s → read_item s at ≡ ItemRead.Got it start len next
+pub item_forth : (s : List ℕ) (at : ℕ) {it : Item} {start len next : ℕ} → Bytes s → read_item s at ≡ Ok (record { item = it; start = start; len = len; next = next })
     → Forth s at it start len next
 item_forth s at b e =
     let g = item_got s at e in
@@ -137,7 +141,7 @@ pub record HeaderGot (s : List ℕ) (h : Header) : Type 0 where
   pub nano : word 4 s 8 ≤ 999999999
   pub rest : word 2 s 12 ≡ length s - 14
 
-pub header_got : (s : List ℕ) {h : Header} → read_header s ≡ HeaderRead.Got h → HeaderGot s h
+pub header_got : (s : List ℕ) {h : Header} → read_header s ≡ Ok h → HeaderGot s h
 unfolding read_header
 header_got s {h} e =
     passed (ltb (length s) 14) _ _ e (λ z. never (cc)) (λ f e1.
@@ -152,7 +156,7 @@ header_got s {h} e =
       rest = eqb-true (word 2 s 12) (length s - 14) l;
     }))))
 
-pub header_forth : (s : List ℕ) {h : Header} → Bytes s → read_header s ≡ HeaderRead.Got h → HeaderForth s h
+pub header_forth : (s : List ℕ) {h : Header} → Bytes s → read_header s ≡ Ok h → HeaderForth s h
 unfolding header_bytes
 header_forth s {h} b e =
     let g = header_got s e in

@@ -9,30 +9,19 @@ use lib.ListN.{length, take, drop, get_or, length-append}
 use lib.Seq.{get_or_at}
 use lib.Dec.{eqb}
 use borrow.Author.Tests.{le-ltb, le-leb, leb-true, eq-eqb, eqb-true}
+use Rattle.std.specs.Prelude.{Option, Some, None, Ok}
 use Rattle.codec.specs.Choice.{pick, bit}
-use Rattle.codec.specs.Number.{be, val, word, fits, Bytes, get8_of, get16_of, get32_of, part_of}
+use Rattle.codec.specs.Number.{be, val, word, fits, Bytes, get_of, part_of}
 use Rattle.codec.specs.Ident.{network_type, kind_in, kind_of, ident_bytes, ident_bit, ident_ok, most_of, can_zero, can_range}
 use Rattle.codec.specs.Item.{state_bytes, state_bit, set_ok, set_for, alone_in, state_ok, load_ok, load_bytes, flags_of, encode}
 use Rattle.codec.specs.Field.{read_flags, read_state, can_ident, flexray_ident, read_can, read_lin, lin_ident, frame_ident, error_ident, read_flexray, read_ident, read_load, read_item, bytes_at}
 use Rattle.codec.specs.Header.{header_bytes, read_header}
 use Rattle.codec.specs.Layout.{Entry, Valid, StateFits, IdentFits}
-use Rattle.codec.specs.declared.number.Part.TheVariants as Part
-use Rattle.codec.specs.declared.number.Read8.TheVariants as Read8
-use Rattle.codec.specs.declared.number.Read16.TheVariants as Read16
-use Rattle.codec.specs.declared.number.Read32.TheVariants as Read32
 use Rattle.codec.specs.declared.ident.Kind.{Kind}
-use Rattle.codec.specs.declared.ident.KindRead.TheVariants as KindRead
 use Rattle.codec.specs.declared.ident.Ident.{Ident}
-use Rattle.codec.specs.declared.item.State.{State}
 use Rattle.codec.specs.declared.item.Item.{Item}
-use Rattle.codec.specs.declared.field.FlagsRead.TheVariants as FlagsRead
-use Rattle.codec.specs.declared.field.StateRead.TheVariants as StateRead
-use Rattle.codec.specs.declared.field.IdentRead.TheVariants as IdentRead
-use Rattle.codec.specs.declared.field.LoadRead.TheVariants as LoadRead
-use Rattle.codec.specs.declared.field.ItemRead.{ItemRead}
 use Rattle.codec.specs.declared.header.Header.{Header}
-use Rattle.codec.specs.declared.header.HeaderRead.{HeaderRead}
-use Rattle.codec.proofs.NumberLaws.{length-be, has_room_lem}
+use Rattle.codec.proofs.NumberLaws.{length-be, has_room_lem, got_here, got_byte}
 use Rattle.codec.proofs.BoolLaws.{and_l, and_r}
 use Rattle.codec.proofs.ItemLaws.{set_small, set_known, ok-set, ok_state, ok_ident, ok_load, ok_short, channels_in, flexray_in, length_load, encode-length}
 use Rattle.codec.proofs.Stands.{Stands, left, right, part_back, room_back, val-be, bytes_be, bytes_join}
@@ -55,7 +44,7 @@ kind_small Kind.Can = omega arith
 kind_small Kind.Lin = omega arith
 kind_small Kind.FlexRay = omega arith
 
-kind_back : (k : Kind) → kind_in (network_type k) ≡ KindRead.Got k
+kind_back : (k : Kind) → kind_in (network_type k) ≡ Ok k
 unfolding kind_in
 kind_back Kind.Can = refl
 kind_back Kind.Lin = refl
@@ -75,26 +64,22 @@ module _ {s : List ℕ} {at : ℕ} where
       ap (λ (k : ℕ). val 0 (take k (drop at s))) (sym (length-be n v))
       ∙ ap (val 0) (part_back w) ∙ val-be n 0 v ∙ rw (mod-eq_of_lt h) (omega arith)
 
-  back8 : {b : ℕ} → Stands s at (b ∷ []) → get8_of s at ≡ Read8.Got b (at + 1)
-  unfolding get8_of
-  back8 w = simp (fits_back w, byte_back w)
+  back : (n v : ℕ) → n ≤ 8 → v < 256 ^ n → Stands s at (be n v) → get_of n s at ≡ Some (v, at + n)
+  back n v k h w =
+      let r : at + n ≤ length s = rw (length-be n v) at (room_back w) in
+      rw (← word_back n v h w) (got_here n s at k r)
 
-  back16 : (v : ℕ) → v < 2 ^ 16 → Stands s at (be 2 v) → get16_of s at ≡ Read16.Got v (at + 2)
-  unfolding get16_of
-  back16 v h w = simp (fits_back w, word_back 2 v h w)
+  back8 : {b : ℕ} {bs : List ℕ} → Stands s at (b ∷ bs) → get_of 1 s at ≡ Some (b, at + 1)
+  back8 {b} {bs} w = let r = room_back w in rw (← byte_back w) (got_byte s at (omega arith))
 
-  back32 : (v : ℕ) → v < 2 ^ 32 → Stands s at (be 4 v) → get32_of s at ≡ Read32.Got v (at + 4)
-  unfolding get32_of
-  back32 v h w = simp (fits_back w, word_back 4 v h w)
-
-  part_at : {bs : List ℕ} → Stands s at bs → part_of s at (length bs) ≡ Part.Got (at + length bs)
+  part_at : {bs : List ℕ} → Stands s at bs → part_of s at (length bs) ≡ Some (at + length bs)
   unfolding part_of
   part_at w = simp (fits_back w)
 
 -- each reader of a field finds the field
 module _ {s : List ℕ} {at : ℕ} where
   flags_back : (kind : Kind) (set : ℕ) → set_ok set ≡ true → Stands s at ((set * 32 + network_type kind) ∷ [])
-      → read_flags s at ≡ FlagsRead.Got kind set (at + 1)
+      → read_flags s at ≡ Ok (kind, set, at + 1)
   unfolding read_flags
   flags_back kind set ok w =
       let h = kind_small kind in
@@ -102,16 +87,16 @@ module _ {s : List ℕ} {at : ℕ} where
       let d : (set * 32 + network_type kind) / 32 ≡ set = omega arith in
       simp (back8 w, m, kind_back kind, d, ok)
 
-  state_back : (kind : Kind) (state : State) → state_ok kind state ≡ true → Stands s at (state_bytes state)
-      → read_state s at kind (eqb (state_bit state) 1) ≡ StateRead.Got state (at + length (state_bytes state))
+  state_back : (kind : Kind) (state : Option ℕ) → state_ok kind state ≡ true → Stands s at (state_bytes state)
+      → read_state s at kind (eqb (state_bit state) 1) ≡ Ok (state, at + length (state_bytes state))
   unfolding read_state
-  state_back kind (State.Byte b) ok w = simp (back8 w, ok)
-  state_back kind State.Absent ok w = simp add-zero
+  state_back kind (Some b) ok w = simp (back8 w, ok)
+  state_back kind None ok w = simp add-zero
 
   ident_back : (ident : Ident) (set : ℕ) → set_for ident set ≡ true → ident_ok ident ≡ true → IdentFits ident → Stands s at (ident_bytes ident)
-      → read_ident s at (kind_of ident) (eqb (ident_bit ident) 1) (alone_in set) ≡ IdentRead.Got ident (at + length (ident_bytes ident))
+      → read_ident s at (kind_of ident) (eqb (ident_bit ident) 1) (alone_in set) ≡ Ok (ident, at + length (ident_bytes ident))
   unfolding read_ident read_can can_ident read_lin lin_ident read_flexray flexray_ident frame_ident error_ident
-  ident_back (Ident.Can key) set e ok h w = simp (back32 key h w, and_l (can_zero key) (can_range key) ok, and_r (can_zero key) (can_range key) ok)
+  ident_back (Ident.Can key) set e ok h w = simp (back 4 key (omega arith) h w, and_l (can_zero key) (can_range key) ok, and_r (can_zero key) (can_range key) ok)
   ident_back (Ident.Lin pid) set e ok h w = simp (back8 w, ok)
   ident_back (Ident.FlexRay channels slot cycle) set e ok h w =
       let r = flexray_in channels slot cycle ok in
@@ -139,7 +124,7 @@ module _ {s : List ℕ} {at : ℕ} where
   ident_back (Ident.Bare k) set e ok h w = simp add-zero
 
   load_back : (most : ℕ) (carries : Bool) (pl : List ℕ) → load_ok carries most (length pl) ≡ true → Stands s at (load_bytes carries pl)
-      → read_load s at most carries ≡ LoadRead.Got (at + bit carries) (length pl) (at + length (load_bytes carries pl))
+      → read_load s at most carries ≡ Ok (record { start = at + bit carries; len = length pl; next = at + length (load_bytes carries pl) })
   unfolding read_load
   load_back most true pl ok w =
       let h : length pl ≤ most = leb-true (length pl) most ok in
@@ -165,9 +150,9 @@ module _ (s i c : ℕ) (hs : s < 2) (hi : i < 2) (hc : c < 2) where
   third_bit : (s * 4 + i * 2 + c) % 2 ≡ c
   third_bit = omega arith
 
-state_small : (state : State) → state_bit state < 2
-state_small (State.Byte b) = omega arith
-state_small State.Absent = omega arith
+state_small : (state : Option ℕ) → state_bit state < 2
+state_small (Some b) = omega arith
+state_small None = omega arith
 
 ident_small : (ident : Ident) → ident_bit ident < 2
 ident_small (Ident.Can key) = omega arith
@@ -219,7 +204,7 @@ module _ (s : List ℕ) (at : ℕ) (it : Item) (pl : List ℕ) (w : Stands s at 
   load_there = move (right (front ++ state_bytes it.state ++ ident_bytes it.ident) (load_bytes it.carries pl) w) (simp length-append (omega arith))
 
 pub item_back : (s : List ℕ) (at : ℕ) (e : Entry) → Valid e → Stands s at (encode e.item e.payload)
-    → read_item s at ≡ ItemRead.Got e.item (payload_place at e.item) (length e.payload) (at + length (encode e.item e.payload))
+    → read_item s at ≡ Ok (record { item = e.item; start = payload_place at e.item; len = length e.payload; next = at + length (encode e.item e.payload) })
 unfolding read_item
 item_back s at e v w =
     let it : Item = e.item in
@@ -239,7 +224,7 @@ item_back s at e v w =
     = omega arith in
     let r = rest_there s at it pl w in
     simp (
-      back16 it.offset.0 v.offset (offset_there s at it pl w),
+      back 2 it.offset.0 (omega arith) v.offset (offset_there s at it pl w),
       flags_back kind (x * 4 + y * 2 + z) (set_known it.ident (x * 4 + y * 2 + z) (ok-set it (length pl) v.ok)) (left (flags_of it ∷ []) (it.network ∷ []) r),
       n3,
       back8 (move (right (flags_of it ∷ []) (it.network ∷ []) r) n3),
@@ -265,9 +250,9 @@ payload_back s at e v w =
     (load_there s at e.item e.payload w)
 
 -- every number that is written is a byte
-state-bytes : (state : State) → StateFits state → Bytes (state_bytes state)
-state-bytes (State.Byte b) h = (h, tt)
-state-bytes State.Absent h = tt
+state-bytes : (state : Option ℕ) → StateFits state → Bytes (state_bytes state)
+state-bytes (Some b) h = (h, tt)
+state-bytes None h = tt
 
 ident-bytes : (ident : Ident) → ident_ok ident ≡ true → IdentFits ident → Bytes (ident_bytes ident)
 ident-bytes (Ident.Can key) ok h = bytes_be 4 key
@@ -301,7 +286,7 @@ encode_bytes e v =
 
 -- the header
 pub header_back : (s : List ℕ) (h : Header) → h.sequence < 256 → h.time.sec ≤ 281474976710655 → h.time.nano ≤ 999999999 → h.length ≤ 65535
-    → length s ≡ 14 + h.length → Stands s 0 (header_bytes h) → read_header s ≡ HeaderRead.Got h
+    → length s ≡ 14 + h.length → Stands s 0 (header_bytes h) → read_header s ≡ Ok h
 unfolding read_header header_bytes
 header_back s h seq sec nano len all w =
     let a : List ℕ = 1 ∷ h.sequence ∷ [] in

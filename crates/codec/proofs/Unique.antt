@@ -1,13 +1,13 @@
 -- Any two outcomes that a public function's own contract permits coincide.
 use mathlib.Core.Path.{◌≡◌, sym, ◌∙◌, ap}
 use Prim.Native.Nat.{ℕ}
-use Rattle.codec.proofs.field.read_flags.Reads as read-Flags
+use Rattle.codec.proofs.field.read_flags.Reads as read-flags
 use Rattle.codec.proofs.field.read_state.Reads as read-state
 use Rattle.codec.proofs.field.read_ident.Reads as read-ident
 use Rattle.codec.proofs.field.read_load.Reads as read-load
 use Rattle.codec.proofs.field.read_item.Reads as read-item
 use Rattle.codec.proofs.header.read_header.Reads as read-header
-use Rattle.codec.proofs.ident.kind_in.Reads as kind-in
+use Rattle.codec.proofs.ident.KindTryFromU8.try_from.Reads as kind-in
 use Rattle.codec.proofs.ident.kind_of.Reads as kind-of
 use Rattle.codec.proofs.ident.can_zero.Reads as can-zero
 use Rattle.codec.proofs.ident.can_range.Reads as can-range
@@ -19,19 +19,17 @@ use Rattle.codec.proofs.ident.ident_ok.Reads as ident-ok
 use Rattle.codec.proofs.item.set_ok.Reads as set-ok
 use Rattle.codec.proofs.item.lin_zero.Reads as lin-zero
 use Rattle.codec.proofs.item.state_ok.Reads as state-ok
-use Rattle.codec.proofs.item.item_ok.Reads as Item-ok
+use Rattle.codec.proofs.item.item_ok.Reads as item-ok
 use Rattle.codec.proofs.number.low8.Reads as low8
-use Rattle.codec.proofs.number.get8.Reads as get8
-use Rattle.codec.proofs.number.get16.Reads as get16
-use Rattle.codec.proofs.number.get32.Reads as get32
+use Rattle.codec.proofs.number.get.Reads as get
 use Rattle.codec.proofs.number.get_part.Reads as get-part
-use Rattle.codec.proofs.refusal.number_of.Reads as number_of_lem
+use Rattle.codec.proofs.refusal.U8FromRefusal.from.Reads as number_of_lem
 use Rattle.codec.proofs.time.in_range.Reads as in-range
 use Rattle.codec.proofs.time.ticks_of_nanos.Reads as ticks-of-nanos
 use Rattle.codec.proofs.time.measure.Reads as measure
 use Rattle.codec.proofs.time.overdue.Reads as overdue
 use Rattle.codec.proofs.time.recovered.Reads as recovered
-use Rattle.codec.proofs.ident.network_type.Reads as network-type
+use Rattle.codec.proofs.ident.U8FromKind.from.Reads as network-type
 use Rattle.codec.proofs.ident.most_of.Reads as most-of
 use Rattle.codec.proofs.item.item_len.Reads as item-len
 use Rattle.codec.proofs.number.word_at.Reads as word_at
@@ -44,7 +42,7 @@ use Rattle.codec.proofs.item.write_item.Reads as write-item
 use Rattle.codec.proofs.header.write_header.Reads as write-header
 use Rattle.codec.proofs.field.part_at.Reads as part_at
 
-pub read_flags_unique : (κs : _) (a : _) (r r' : _) (x x' : _) → read-Flags.Post κs a r x → read-Flags.Post κs a r' x' → r ≡ r'
+pub read_flags_unique : (κs : _) (a : _) (r r' : _) (x x' : _) → read-flags.Post κs a r x → read-flags.Post κs a r' x' → r ≡ r'
 read_flags_unique κs a r r' x x' p q = p ∙ sym q
 
 pub read_state_unique : (κs : _) (a : _) (r r' : _) (x x' : _) → read-state.Post κs a r x → read-state.Post κs a r' x' → r ≡ r'
@@ -98,23 +96,17 @@ lin_zero_unique κs a r r' x x' p q = p ∙ sym q
 pub state_ok_unique : (κs : _) (a : _) (r r' : _) (x x' : _) → state-ok.Post κs a r x → state-ok.Post κs a r' x' → r ≡ r'
 state_ok_unique κs a r r' x x' p q = p ∙ sym q
 
-pub item_ok_unique : (κs : _) (a : _) (r r' : _) (x x' : _) → Item-ok.Post κs a r x → Item-ok.Post κs a r' x' → r ≡ r'
+pub item_ok_unique : (κs : _) (a : _) (r r' : _) (x x' : _) → item-ok.Post κs a r x → item-ok.Post κs a r' x' → r ≡ r'
 item_ok_unique κs a r r' x x' p q = p ∙ sym q
 
 pub low8_unique : (κs : _) (a : _) (r r' : _) (x x' : _) → low8.Post κs a r x → low8.Post κs a r' x' → r ≡ r'
 low8_unique κs a r r' x x' p q = p ∙ sym q
 
-pub get8_unique : (κs : _) (a : _) (r r' : _) (x x' : _) → get8.Post κs a r x → get8.Post κs a r' x' → r ≡ r'
-get8_unique κs a r r' x x' p q = p ∙ sym q
-
-pub get16_unique : (κs : _) (a : _) (r r' : _) (x x' : _) → get16.Post κs a r x → get16.Post κs a r' x' → r ≡ r'
-get16_unique κs a r r' x x' p q = p ∙ sym q
-
-pub get32_unique : (κs : _) (a : _) (r r' : _) (x x' : _) → get32.Post κs a r x → get32.Post κs a r' x' → r ≡ r'
-get32_unique κs a r r' x x' p q = p ∙ sym q
+pub get_unique : (κs : _) (a : _) (r r' : _) (x x' : _) → get.Post κs a r x → get.Post κs a r' x' → r ≡ r'
+get_unique κs a r r' x x' p q = p.0 ∙ sym q.0
 
 pub get_part_unique : (κs : _) (a : _) (r r' : _) (x x' : _) → get-part.Post κs a r x → get-part.Post κs a r' x' → r ≡ r'
-get_part_unique κs a r r' x x' p q = p ∙ sym q
+get_part_unique κs a r r' x x' p q = p.0 ∙ sym q.0
 
 pub number_of_unique : (κs : _) (a : _) (r r' : _) (x x' : _) → number_of_lem.Post κs a r x → number_of_lem.Post κs a r' x' → r ≡ r'
 number_of_unique κs a r r' x x' p q = p ∙ sym q

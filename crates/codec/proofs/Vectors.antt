@@ -3,7 +3,8 @@ use Prim.Native.Nat.{ℕ}
 use mathlib.Core.Path.{◌≡◌, refl}
 use mathlib.Core.Bool.{true, false}
 use mathlib.Core.List.{List, [], ◌∷◌, map}
-use Rattle.codec.specs.Number.{word, fits, get8_of, get16_of, get32_of, part_of}
+use Rattle.std.specs.Prelude.{Some, None, Ok, Err}
+use Rattle.codec.specs.Number.{word, fits, get_of, part_of}
 use Rattle.codec.specs.Ident.{kind_in, can_zero, can_range, can_fd, even_parity, odd_parity, pid_ok, flexray_range, ident_bytes}
 use Rattle.codec.specs.Item.{encode}
 use Rattle.codec.specs.Field.{read_flags, read_state, can_ident, flexray_ident, read_can, read_lin, lin_ident, read_flexray, frame_ident, error_ident, read_ident, read_load, read_item, bytes_at}
@@ -11,15 +12,12 @@ use Rattle.codec.specs.Header.{read_header}
 use Rattle.codec.specs.Time.{ns, elapsed, ticks_of, recovered_of}
 use Rattle.codec.proofs.PidLaws.{pid_of}
 use Rattle.codec.specs.declared.time.Time.{Time}
+use Rattle.codec.specs.declared.time.Ticks.{Ticks}
 use Rattle.codec.specs.declared.time.Elapsed.{Elapsed}
 use Rattle.codec.specs.declared.refusal.Refusal.TheVariants as Refusal
 use Rattle.codec.specs.declared.ident.Kind.TheVariants as Kind
 use Rattle.codec.specs.declared.ident.Ident.TheVariants as Ident
-use Rattle.codec.specs.declared.item.State.TheVariants as State
 use Rattle.codec.specs.declared.item.Item.{Item}
-use Rattle.codec.specs.declared.field.IdentRead.TheVariants as IdentRead
-use Rattle.codec.specs.declared.field.ItemRead.TheVariants as ItemRead
-use Rattle.codec.specs.declared.header.HeaderRead.TheVariants as HeaderRead
 
 -- a frame of two CAN items, the second with a state, after 14 bytes of header
 abbrev frame : List ℕ
@@ -30,21 +28,21 @@ frame =
     ∷ []
 
 abbrev one : Item
-one = record { offset = record { 0 = 0 }; network = 5; state = State.Absent; ident = Ident.Can 0x123; carries = true }
+one = record { offset = record { 0 = 0 }; network = 5; state = None; ident = Ident.Can 0x123; carries = true }
 
 abbrev two : Item
-two = record { offset = record { 0 = 2 }; network = 5; state = State.Byte 0x40; ident = Ident.Can 0xc1abcdef; carries = true }
+two = record { offset = record { 0 = 2 }; network = 5; state = Some 0x40; ident = Ident.Can 0xc1abcdef; carries = true }
 
-header : read_header frame ≡ HeaderRead.Got (record { sequence = 0; time = record { sec = 16; nano = 0 }; length = 22 })
+header : read_header frame ≡ Ok (record { sequence = 0; time = record { sec = 16; nano = 0 }; length = 22 })
 unfolding read_header word
 header = refl
 
-item_one : read_item frame 14 ≡ ItemRead.Got one 23 2 25
-unfolding read_item read_flags read_state read_ident read_can can_ident read_load get8_of get16_of get32_of part_of fits word kind_in can_zero can_range can_fd
+item_one : read_item frame 14 ≡ Ok (record { item = one; start = 23; len = 2; next = 25 })
+unfolding read_item read_flags read_state read_ident read_can can_ident read_load get_of part_of fits word kind_in can_zero can_range can_fd
 item_one = refl
 
-item_two : read_item frame 25 ≡ ItemRead.Got two 35 1 36
-unfolding read_item read_flags read_state read_ident read_can can_ident read_load get8_of get16_of get32_of part_of fits word kind_in can_zero can_range can_fd
+item_two : read_item frame 25 ≡ Ok (record { item = two; start = 35; len = 1; next = 36 })
+unfolding read_item read_flags read_state read_ident read_can can_ident read_load get_of part_of fits word kind_in can_zero can_range can_fd
 item_two = refl
 
 payload_one : bytes_at frame 23 2 ≡ 0x01 ∷ 0x02 ∷ []
@@ -60,7 +58,7 @@ written = refl
 flexray : ident_bytes (Ident.FlexRay 3 1027 63) ≡ 0xcc ∷ 0x03 ∷ 0x3f ∷ []
 flexray = refl
 
-flexray_back : read_ident (0xcc ∷ 0x03 ∷ 0x3f ∷ []) 0 Kind.FlexRay true false ≡ IdentRead.Got (Ident.FlexRay 3 1027 63) 3
+flexray_back : read_ident (0xcc ∷ 0x03 ∷ 0x3f ∷ []) 0 Kind.FlexRay true false ≡ Ok (Ident.FlexRay 3 1027 63, 3)
 unfolding read_ident read_flexray flexray_ident frame_ident part_of fits flexray_range
 flexray_back = refl
 
@@ -68,19 +66,19 @@ flexray_back = refl
 error : ident_bytes (Ident.FlexRayError 3) ≡ 0xc0 ∷ 0x00 ∷ 0x00 ∷ []
 error = refl
 
-error_back : read_ident (0xc0 ∷ 0x00 ∷ 0x00 ∷ []) 0 Kind.FlexRay true true ≡ IdentRead.Got (Ident.FlexRayError 3) 3
+error_back : read_ident (0xc0 ∷ 0x00 ∷ 0x00 ∷ []) 0 Kind.FlexRay true true ≡ Ok (Ident.FlexRayError 3, 3)
 unfolding read_ident read_flexray flexray_ident error_ident part_of fits
 error_back = refl
 
-error_loaded : read_ident (0xc0 ∷ 0x00 ∷ 0x00 ∷ []) 0 Kind.FlexRay true false ≡ IdentRead.Refused Refusal.Reserved
+error_loaded : read_ident (0xc0 ∷ 0x00 ∷ 0x00 ∷ []) 0 Kind.FlexRay true false ≡ Err Refusal.Reserved
 unfolding read_ident read_flexray flexray_ident part_of fits
 error_loaded = refl
 
-error_slotted : read_ident (0xc1 ∷ 0x00 ∷ 0x00 ∷ []) 0 Kind.FlexRay true true ≡ IdentRead.Refused Refusal.Range
+error_slotted : read_ident (0xc1 ∷ 0x00 ∷ 0x00 ∷ []) 0 Kind.FlexRay true true ≡ Err Refusal.Range
 unfolding read_ident read_flexray flexray_ident error_ident part_of fits
 error_slotted = refl
 
-error_cycled : read_ident (0xc0 ∷ 0x00 ∷ 0x01 ∷ []) 0 Kind.FlexRay true true ≡ IdentRead.Refused Refusal.Range
+error_cycled : read_ident (0xc0 ∷ 0x00 ∷ 0x01 ∷ []) 0 Kind.FlexRay true true ≡ Err Refusal.Range
 unfolding read_ident read_flexray flexray_ident error_ident part_of fits
 error_cycled = refl
 
@@ -89,24 +87,24 @@ pids : map pid_of (0x00 ∷ 0x01 ∷ 0x02 ∷ 0x3c ∷ 0x3d ∷ 0x3f ∷ []) ≡
 pids = refl
 
 -- a LIN id read: the right PID of id 3D, and the same id with P0 fallen
-lin_back : read_ident (0x7d ∷ []) 0 Kind.Lin true false ≡ IdentRead.Got (Ident.Lin 0x7d) 1
-unfolding read_ident read_lin lin_ident get8_of fits pid_ok even_parity odd_parity
+lin_back : read_ident (0x7d ∷ []) 0 Kind.Lin true false ≡ Ok (Ident.Lin 0x7d, 1)
+unfolding read_ident read_lin lin_ident get_of fits word pid_ok even_parity odd_parity
 lin_back = refl
 
-lin_broken : read_ident (0x3d ∷ []) 0 Kind.Lin true false ≡ IdentRead.Refused Refusal.Range
-unfolding read_ident read_lin lin_ident get8_of fits pid_ok even_parity odd_parity
+lin_broken : read_ident (0x3d ∷ []) 0 Kind.Lin true false ≡ Err Refusal.Range
+unfolding read_ident read_lin lin_ident get_of fits word pid_ok even_parity odd_parity
 lin_broken = refl
 
 -- P2 to P5 (docs/RULES.md, "Worked examples") on the measure
-under_a_tick : elapsed 0 9999 ≡ Elapsed.Ticks (record { 0 = 0 })
+under_a_tick : elapsed 0 9999 ≡ Elapsed.Within (record { 0 = 0 })
 unfolding elapsed ticks_of
 under_a_tick = refl
 
-one_tick : elapsed 0 10000 ≡ Elapsed.Ticks (record { 0 = 1 })
+one_tick : elapsed 0 10000 ≡ Elapsed.Within (record { 0 = 1 })
 unfolding elapsed ticks_of
 one_tick = refl
 
-last_tick : elapsed 0 655359999 ≡ Elapsed.Ticks (record { 0 = 65535 })
+last_tick : elapsed 0 655359999 ≡ Elapsed.Within (record { 0 = 65535 })
 unfolding elapsed ticks_of
 last_tick = refl
 
@@ -114,7 +112,7 @@ too_far : elapsed 0 655360000 ≡ Elapsed.TooFar
 unfolding elapsed ticks_of
 too_far = refl
 
-over_the_second : elapsed (ns (record { sec = 9; nano = 999999000 })) (ns (record { sec = 10; nano = 9000 })) ≡ Elapsed.Ticks (record { 0 = 1 })
+over_the_second : elapsed (ns (record { sec = 9; nano = 999999000 })) (ns (record { sec = 10; nano = 9000 })) ≡ Elapsed.Within (record { 0 = 1 })
 unfolding elapsed ticks_of
 over_the_second = refl
 
@@ -124,13 +122,13 @@ backwards = refl
 
 -- a clock that stands still, and one set back by 1 ns, by 4 ms, by the most that is told, one nanosecond less and one more; over a
 -- second's edge, the nanosecond field falling and rising; by 111 seconds; from the last moment to the first
-abbrev from : Time → Time → Elapsed
+abbrev from : Time → Time → Elapsed Ticks
 from header now = elapsed (ns header) (ns now)
 
 abbrev at : ℕ → ℕ → Time
 at sec nano = record { sec = sec; nano = nano }
 
-abbrev by : ℕ → Elapsed
+abbrev by : ℕ → Elapsed Ticks
 by n = Elapsed.Backwards (record { 0 = n })
 
 steps_back :
@@ -139,7 +137,7 @@ steps_back :
     ∷ from (at 16 5) (at 15 3) ∷ from (at 16 3) (at 15 999999999) ∷ from (at 127 0) (at 16 0)
     ∷ from (at 281474976710655 999999999) (at 0 0)
     ∷ [])
-    ≡ Elapsed.Ticks (record { 0 = 0 }) ∷ by 1 ∷ by 4000000
+    ≡ Elapsed.Within (record { 0 = 0 }) ∷ by 1 ∷ by 4000000
     ∷ by 4294967295 ∷ by 4294967294 ∷ by 4294967295
     ∷ by 1000000002 ∷ by 4 ∷ by 4294967295
     ∷ by 4294967295

@@ -1,11 +1,11 @@
 -- Frame ids on the wire (docs/RULES.md, "Frame bytes"; Specification of Bus Mirroring, 7.4.2.2.5 and 7.4.2.2.8).
-use Rattle.std.specs.Prelude.{ℕ, ◌+◌, ◌-◌, ◌*◌, ◌/◌, ◌%◌, ◌^◌, Bool, true, false, ◌&&◌, ◌||◌, List, [], ◌∷◌, leb, eqb}
+use Rattle.std.specs.Prelude.{ℕ, ◌+◌, ◌-◌, ◌*◌, ◌/◌, ◌%◌, ◌^◌, Bool, true, false, ◌&&◌, ◌||◌, List, [], ◌∷◌, leb, eqb, Result, Ok, Err}
 use Rattle.std.specs.Int.Bits.{bit_xor}
 use Rattle.codec.specs.Choice.{pick}
 use Rattle.codec.specs.Number.{be}
+use Rattle.codec.specs.declared.refusal.Refusal.{Refusal}
 use Rattle.codec.specs.declared.ident.Kind.{Kind}
 use Rattle.codec.specs.declared.ident.Ident.{Ident}
-use Rattle.codec.specs.declared.ident.KindRead.{KindRead}
 
 -- SWS_Mirror_00074, table 7.2
 abbrev pub network_type : Kind → ℕ
@@ -13,15 +13,12 @@ network_type Kind.Can = 1
 network_type Kind.Lin = 2
 network_type Kind.FlexRay = 3
 
-unfoldable pub kind_in : ℕ → KindRead
+-- the kind of a network type (answer 24 where it names none)
+unfoldable pub kind_in : ℕ → Result Kind Refusal
 kind_in n =
-    pick (eqb n 1) (KindRead.Got Kind.Can)
-    (pick (eqb n 2) (KindRead.Got Kind.Lin)
-    (pick (eqb n 3) (KindRead.Got Kind.FlexRay) KindRead.Unknown))
-
-abbrev pub open_kind : {A : Type 0} → KindRead → (Kind → A) → A → A
-open_kind (KindRead.Got v) k z = k v
-open_kind KindRead.Unknown k z = z
+    pick (eqb n 1) (Ok Kind.Can)
+    (pick (eqb n 2) (Ok Kind.Lin)
+    (pick (eqb n 3) (Ok Kind.FlexRay) (Err Refusal.Network)))
 
 abbrev pub kind_of : Ident → Kind
 kind_of (Ident.Can key) = Kind.Can

@@ -1,23 +1,22 @@
 -- An item as bytes (docs/RULES.md, "Frame bytes"; Specification of Bus Mirroring, 7.4.2.2).
-use Rattle.std.specs.Prelude.{ℕ, ◌+◌, ◌*◌, ◌/◌, ◌%◌, Bool, true, false, ◌&&◌, ◌||◌, List, [], ◌∷◌, ◌++◌, length, leb, eqb}
+use Rattle.std.specs.Prelude.{ℕ, ◌+◌, ◌*◌, ◌/◌, ◌%◌, Bool, true, false, ◌&&◌, ◌||◌, List, [], ◌∷◌, ◌++◌, length, leb, eqb, Option, Some, None}
 use Rattle.codec.specs.Choice.{bit}
 use Rattle.codec.specs.Number.{be}
 use Rattle.codec.specs.Ident.{network_type, kind_of, ident_bytes, ident_bit, ident_ok, most_of}
 use Rattle.codec.specs.declared.ident.Kind.{Kind}
 use Rattle.codec.specs.declared.ident.Ident.{Ident}
-use Rattle.codec.specs.declared.item.State.{State}
 use Rattle.codec.specs.declared.item.Item.{Item}
 
-abbrev pub state_bytes : State → List ℕ
-state_bytes (State.Byte b) = b ∷ []
-state_bytes State.Absent = []
+abbrev pub state_bytes : Option ℕ → List ℕ
+state_bytes (Some b) = b ∷ []
+state_bytes None = []
 
-abbrev pub state_bit : State → ℕ
-state_bit (State.Byte b) = 1
-state_bit State.Absent = 0
+abbrev pub state_bit : Option ℕ → ℕ
+state_bit (Some b) = 1
+state_bit None = 0
 
 -- which of state, id and payload are present
-abbrev pub set_of : State → Ident → Bool → ℕ
+abbrev pub set_of : Option ℕ → Ident → Bool → ℕ
 set_of state ident carries = state_bit state * 4 + ident_bit ident * 2 + bit carries
 
 -- id and payload; state, id and payload; state and id; state alone
@@ -45,9 +44,9 @@ shown_ok Kind.Can b = true
 shown_ok Kind.Lin b = lin_zero b
 shown_ok Kind.FlexRay b = true
 
-abbrev pub state_ok : Kind → State → Bool
-state_ok k (State.Byte b) = shown_ok k b
-state_ok k State.Absent = true
+abbrev pub state_ok : Kind → Option ℕ → Bool
+state_ok k (Some b) = shown_ok k b
+state_ok k None = true
 
 -- a payload of n bytes where one is carried, none where not
 abbrev pub load_ok : Bool → ℕ → ℕ → Bool

@@ -1,11 +1,10 @@
 -- A frame: the header, then the items one after the other (docs/RULES.md, "Frame bytes"; Specification of Bus Mirroring, 7.4.2).
-use Rattle.std.specs.Prelude.{ℕ, ◌^◌, ◌<◌, ◌≤◌, ◌≡◌, true, List, [], ◌∷◌, ◌++◌, length}
+use Rattle.std.specs.Prelude.{ℕ, ◌^◌, ◌<◌, ◌≤◌, ◌≡◌, true, List, [], ◌∷◌, ◌++◌, length, Option, Some, None}
 use Rattle.codec.specs.Number.{Bytes}
 use Rattle.codec.specs.Header.{header_bytes}
 use Rattle.codec.specs.Item.{encode, item_ok}
 use Rattle.codec.specs.declared.time.Time.{Time}
 use Rattle.codec.specs.declared.ident.Ident.{Ident}
-use Rattle.codec.specs.declared.item.State.{State}
 use Rattle.codec.specs.declared.item.Item.{Item}
 
 -- an item and the payload beside it
@@ -23,9 +22,9 @@ unfoldable pub layout : ℕ → Time → List Entry → List ℕ
 layout sequence time es = header_bytes (record { sequence = sequence; time = time; length = length (body es) }) ++ body es
 
 -- fields within their widths
-abbrev pub StateFits : State → Type 0
-StateFits (State.Byte b) = b < 256
-StateFits State.Absent = Unit
+abbrev pub StateFits : Option ℕ → Type 0
+StateFits (Some b) = b < 256
+StateFits None = Unit
 
 abbrev pub IdentFits : Ident → Type 0
 IdentFits (Ident.Can key) = key < 2 ^ 32

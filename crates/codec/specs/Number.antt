@@ -1,11 +1,6 @@
 -- Big-endian numbers (Specification of Bus Mirroring, 7.4.2), bytes written over a list, and bytes read from one.
-use Rattle.std.specs.Prelude.{ℕ, zero, suc, ◌+◌, ◌*◌, ◌/◌, ◌%◌, ◌^◌, ◌<◌, ◌≤◌, ◌≡◌, Bool, true, false, List, [], ◌∷◌, ◌++◌, length, take, drop, get_or, leb}
+use Rattle.std.specs.Prelude.{ℕ, zero, suc, ◌+◌, ◌*◌, ◌/◌, ◌%◌, ◌^◌, ◌<◌, ◌≤◌, ◌≡◌, Bool, true, false, List, [], ◌∷◌, ◌++◌, length, take, drop, leb, Option, Some, None}
 use Rattle.codec.specs.Choice.{pick}
-use Rattle.codec.specs.declared.number.Put.{Put}
-use Rattle.codec.specs.declared.number.Part.{Part}
-use Rattle.codec.specs.declared.number.Read8.{Read8}
-use Rattle.codec.specs.declared.number.Read16.{Read16}
-use Rattle.codec.specs.declared.number.Read32.{Read32}
 
 -- v without its n low bytes
 abbrev pub shr : ℕ → ℕ → ℕ
@@ -41,9 +36,9 @@ fits_in true l at n = fits l at n
 fits_in false l at n = false
 
 -- where fits_in, bs stand at index at and the answer is the index past them; else nothing changed
-pub record Wrote (fit : Bool) (l : List ℕ) (at : ℕ) (bs : List ℕ) (l' : List ℕ) (r : Put) : Type 0 where
+pub record Wrote (fit : Bool) (l : List ℕ) (at : ℕ) (bs : List ℕ) (l' : List ℕ) (r : Option ℕ) : Type 0 where
   pub list : l' ≡ pick (fits_in fit l at (length bs)) (over l at bs) l
-  pub answer : r ≡ pick (fits_in fit l at (length bs)) (Put.Next (at + length bs)) Put.Nothing
+  pub answer : r ≡ pick (fits_in fit l at (length bs)) (Some (at + length bs)) None
 
 -- bs stand at index at, and r is the index past them
 pub record Laid (l : List ℕ) (at : ℕ) (bs : List ℕ) (l' : List ℕ) (r : ℕ) : Type 0 where
@@ -78,33 +73,10 @@ word n s at = val 0 (take n (drop at s))
 unfoldable pub word_at : ℕ → List ℕ → ℕ → ℕ
 word_at n s at = pick (leb n 8) (pick (fits s at n) (word n s at) 0) 0
 
--- a number and the index past it
-unfoldable pub get8_of : List ℕ → ℕ → Read8
-get8_of s at = pick (fits s at 1) (Read8.Got (get_or s at 0) (at + 1)) Read8.Short
-
-unfoldable pub get16_of : List ℕ → ℕ → Read16
-get16_of s at = pick (fits s at 2) (Read16.Got (word 2 s at) (at + 2)) Read16.Short
-
-unfoldable pub get32_of : List ℕ → ℕ → Read32
-get32_of s at = pick (fits s at 4) (Read32.Got (word 4 s at) (at + 4)) Read32.Short
+-- a number of n bytes, at most eight, and the index past it
+unfoldable pub get_of : ℕ → List ℕ → ℕ → Option (ℕ × ℕ)
+get_of n s at = pick (leb n 8) (pick (fits s at n) (Some (word n s at, at + n)) None) None
 
 -- the index past n bytes at index at, where they are within s
-unfoldable pub part_of : List ℕ → ℕ → ℕ → Part
-part_of s at n = pick (fits s at n) (Part.Got (at + n)) Part.Short
-
--- an answer opened: what to do with what was got, and what to answer else
-abbrev pub open8 : {A : Type 0} → Read8 → (ℕ → ℕ → A) → A → A
-open8 (Read8.Got v n) k z = k v n
-open8 Read8.Short k z = z
-
-abbrev pub open16 : {A : Type 0} → Read16 → (ℕ → ℕ → A) → A → A
-open16 (Read16.Got v n) k z = k v n
-open16 Read16.Short k z = z
-
-abbrev pub open32 : {A : Type 0} → Read32 → (ℕ → ℕ → A) → A → A
-open32 (Read32.Got v n) k z = k v n
-open32 Read32.Short k z = z
-
-abbrev pub open_part : {A : Type 0} → Part → (ℕ → A) → A → A
-open_part (Part.Got n) k z = k n
-open_part Part.Short k z = z
+unfoldable pub part_of : List ℕ → ℕ → ℕ → Option ℕ
+part_of s at n = pick (fits s at n) (Some (at + n)) None

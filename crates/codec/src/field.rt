@@ -1,195 +1,194 @@
 // The fields of an item, read left to right: missing bytes before a wrong value, the first refusal straight up.
+// The lent bytes and an index go into each reader, and the index past what it read comes out: a cursor would hold both, and hide
+// the indices that `Decoded` hands on.
 ghost use Rattle.std.specs.Prelude.{◌≡◌};
-ghost use Rattle.codec.specs.Field.{read_flags, read_state, can_ident, lin_ident, frame_ident, error_ident, flexray_ident, read_can, read_lin, read_flexray, read_ident, read_load, read_item, bytes_at, why_flags, why_state, why_ident, why_load};
+ghost use Rattle.codec.specs.Field.{read_flags, read_state, can_ident, lin_ident, frame_ident, error_ident, flexray_ident, read_can, read_lin, read_flexray, read_ident, read_load, read_item, bytes_at};
 
-use crate::ident::{Ident, Kind, KindRead};
-use crate::item::{Item, State};
-use crate::number::{Part, Read8, Read16, Read32};
+use crate::ident::{Ident, Kind};
+use crate::item::Item;
+use crate::number::{get, get_part};
 use crate::refusal::Refusal;
 use crate::time::Ticks;
 
-#[derive(Clone, Copy)]
-pub enum FlagsRead {
-    Got(Kind, u8, usize),
-    Refused(Refusal),
-}
-
-#[derive(Clone, Copy)]
-pub enum StateRead {
-    Got(State, usize),
-    Refused(Refusal),
-}
-
-#[derive(Clone, Copy)]
-pub enum IdentRead {
-    Got(Ident, usize),
-    Refused(Refusal),
-}
-
 // Where a payload starts, how long it is and where it ends.
 #[derive(Clone, Copy)]
-pub enum LoadRead {
-    Got(usize, usize, usize),
-    Refused(Refusal),
+pub struct Load {
+    pub start: usize,
+    pub len: usize,
+    pub next: usize,
 }
 
+// An item, the place of its payload, and where the next item starts.
 #[derive(Clone, Copy)]
-pub enum ItemRead {
-    Got {
-        item: Item,
-        start: usize,
-        len: usize,
-        next: usize,
-    },
-    Refused(Refusal),
+pub struct Decoded {
+    pub item: Item,
+    pub start: usize,
+    pub len: usize,
+    pub next: usize,
 }
 
 // The network type and which of state, id and payload are present.
 #[tactic(auto, unfolding(crate::specs::Field::read_flags))]
-pub fn read_flags(s: &[u8], at: usize) -> FlagsRead
+pub fn read_flags(s: &[u8], at: usize) -> Result<(Kind, u8, usize), Refusal>
     ensures { result ≡ read_flags s.now at }
 {
-    let Read8::Got(b, next) = crate::number::get8(s, at) else {
-        return FlagsRead::Refused(Refusal::Missing);
+    let Some((b, next)) = get(s, at, 1) else {
+        return Err(Refusal::Missing);
     };
-    let KindRead::Got(kind) = crate::ident::kind_in(b & 31) else {
-        return FlagsRead::Refused(Refusal::Network);
-    };
-    let set = b >> 5;
+    let flags = b as u8;
+    let kind = Kind::try_from(flags & 31)?;
+    let set = flags >> 5;
     if crate::item::set_ok(set) {
-        FlagsRead::Got(kind, set, next)
+        Ok((kind, set, next))
     } else {
-        FlagsRead::Refused(Refusal::Flags)
+        Err(Refusal::Flags)
     }
 }
 
 #[tactic(auto, unfolding(crate::specs::Field::read_state))]
-pub fn read_state(s: &[u8], at: usize, kind: Kind, present: bool) -> StateRead
+pub fn read_state(
+    s: &[u8],
+    at: usize,
+    kind: Kind,
+    present: bool,
+) -> Result<(Option<u8>, usize), Refusal>
     ensures { result ≡ read_state s.now at kind present }
 {
     if !present {
-        return StateRead::Got(State::Absent, at);
+        return Ok((None, at));
     }
-    let Read8::Got(b, next) = crate::number::get8(s, at) else {
-        return StateRead::Refused(Refusal::Missing);
+    let Some((b, next)) = get(s, at, 1) else {
+        return Err(Refusal::Missing);
     };
-    let state = State::Byte(b);
+    let state = Some(b as u8);
     if crate::item::state_ok(kind, state) {
-        StateRead::Got(state, next)
+        Ok((state, next))
     } else {
-        StateRead::Refused(Refusal::Reserved)
+        Err(Refusal::Reserved)
     }
 }
 
 #[tactic(auto, unfolding(crate::specs::Field::can_ident))]
-fn can_ident(key: u32, next: usize) -> IdentRead
+fn can_ident(key: u32, next: usize) -> Result<(Ident, usize), Refusal>
     ensures { result ≡ can_ident key next }
 {
     if !crate::ident::can_zero(key) {
-        return IdentRead::Refused(Refusal::Reserved);
+        return Err(Refusal::Reserved);
     }
     if crate::ident::can_range(key) {
-        IdentRead::Got(Ident::Can(key), next)
+        Ok((Ident::Can(key), next))
     } else {
-        IdentRead::Refused(Refusal::Range)
+        Err(Refusal::Range)
     }
 }
 
 #[tactic(auto, unfolding(crate::specs::Field::read_can))]
-fn read_can(s: &[u8], at: usize) -> IdentRead
+fn read_can(s: &[u8], at: usize) -> Result<(Ident, usize), Refusal>
     ensures { result ≡ read_can s.now at }
 {
-    let Read32::Got(key, next) = crate::number::get32(s, at) else {
-        return IdentRead::Refused(Refusal::Missing);
+    let Some((key, next)) = get(s, at, 4) else {
+        return Err(Refusal::Missing);
     };
-    can_ident(key, next)
+    can_ident(key as u32, next)
 }
 
 #[tactic(auto, unfolding(crate::specs::Field::lin_ident))]
-fn lin_ident(pid: u8, next: usize) -> IdentRead
+fn lin_ident(pid: u8, next: usize) -> Result<(Ident, usize), Refusal>
     ensures { result ≡ lin_ident pid next }
 {
-    if crate::ident::pid_ok(pid as u32) {
-        IdentRead::Got(Ident::Lin(pid), next)
+    if crate::ident::pid_ok(u32::from(pid)) {
+        Ok((Ident::Lin(pid), next))
     } else {
-        IdentRead::Refused(Refusal::Range)
+        Err(Refusal::Range)
     }
 }
 
 #[tactic(auto, unfolding(crate::specs::Field::read_lin))]
-fn read_lin(s: &[u8], at: usize) -> IdentRead
+fn read_lin(s: &[u8], at: usize) -> Result<(Ident, usize), Refusal>
     ensures { result ≡ read_lin s.now at }
 {
-    let Read8::Got(pid, next) = crate::number::get8(s, at) else {
-        return IdentRead::Refused(Refusal::Missing);
+    let Some((pid, next)) = get(s, at, 1) else {
+        return Err(Refusal::Missing);
     };
-    lin_ident(pid, next)
+    lin_ident(pid as u8, next)
 }
 
 #[tactic(auto, unfolding(crate::specs::Field::frame_ident))]
-fn frame_ident(channels: u8, slot: u16, cycle: u8, next: usize) -> IdentRead
+fn frame_ident(channels: u8, slot: u16, cycle: u8, next: usize) -> Result<(Ident, usize), Refusal>
     ensures { result ≡ frame_ident channels slot cycle next }
 {
-    if crate::ident::flexray_range(channels, slot, cycle) {
-        IdentRead::Got(
+    if crate::ident::flexray_range(u32::from(channels), u32::from(slot), u32::from(cycle)) {
+        Ok((
             Ident::FlexRay {
                 channels,
                 slot,
                 cycle,
             },
             next,
-        )
+        ))
     } else {
-        IdentRead::Refused(Refusal::Range)
+        Err(Refusal::Range)
     }
 }
 
 #[tactic(auto, unfolding(crate::specs::Field::error_ident))]
-fn error_ident(channels: u8, slot: u16, cycle: u8, next: usize) -> IdentRead
+fn error_ident(channels: u8, slot: u16, cycle: u8, next: usize) -> Result<(Ident, usize), Refusal>
     ensures { result ≡ error_ident channels slot cycle next }
 {
-    if crate::ident::channels_ok(channels as u32) & (slot == 0) & (cycle == 0) {
-        IdentRead::Got(Ident::FlexRayError(channels), next)
+    if crate::ident::channels_ok(u32::from(channels)) & (slot == 0) & (cycle == 0) {
+        Ok((Ident::FlexRayError(channels), next))
     } else {
-        IdentRead::Refused(Refusal::Range)
+        Err(Refusal::Range)
     }
 }
 
 // Bits 5 and 4 of the first byte are zero; bit 3 is one, or zero for an error without a frame, which is told by state
 // and id alone.
 #[tactic(auto, unfolding(crate::specs::Field::flexray_ident))]
-fn flexray_ident(alone: bool, front: u8, low: u8, cycle: u8, next: usize) -> IdentRead
+fn flexray_ident(
+    alone: bool,
+    front: u8,
+    low: u8,
+    cycle: u8,
+    next: usize,
+) -> Result<(Ident, usize), Refusal>
     ensures { result ≡ flexray_ident alone front low cycle next }
 {
     let marks = front >> 3 & 7;
     let channels = front >> 6;
-    let slot = ((front & 7) as u16) << 8 | low as u16;
+    let slot = u16::from(front & 7) << 8 | u16::from(low);
     if marks == 1 {
         return frame_ident(channels, slot, cycle, next);
     }
     if alone & (marks == 0) {
         return error_ident(channels, slot, cycle, next);
     }
-    IdentRead::Refused(Refusal::Reserved)
+    Err(Refusal::Reserved)
 }
 
-#[tactic(auto, using(crate::proofs::NumberLaws::part_room), unfolding(crate::specs::Field::read_flexray))]
-fn read_flexray(s: &[u8], at: usize, alone: bool) -> IdentRead
+#[tactic(auto, unfolding(crate::specs::Field::read_flexray))]
+fn read_flexray(s: &[u8], at: usize, alone: bool) -> Result<(Ident, usize), Refusal>
     ensures { result ≡ read_flexray s.now at alone }
 {
-    let Part::Got(next) = crate::number::get_part(s, at, 3) else {
-        return IdentRead::Refused(Refusal::Missing);
+    let Some(next) = get_part(s, at, 3) else {
+        return Err(Refusal::Missing);
     };
     flexray_ident(alone, s[at], s[at + 1], s[at + 2], next)
 }
 
 // Alone: the item has state and id, and nothing else.
 #[tactic(auto, unfolding(crate::specs::Field::read_ident))]
-pub fn read_ident(s: &[u8], at: usize, kind: Kind, present: bool, alone: bool) -> IdentRead
+pub fn read_ident(
+    s: &[u8],
+    at: usize,
+    kind: Kind,
+    present: bool,
+    alone: bool,
+) -> Result<(Ident, usize), Refusal>
     ensures { result ≡ read_ident s.now at kind present alone }
 {
     if !present {
-        return IdentRead::Got(Ident::Bare(kind), at);
+        return Ok((Ident::Bare(kind), at));
     }
     match kind {
         Kind::Can => read_can(s, at),
@@ -199,100 +198,56 @@ pub fn read_ident(s: &[u8], at: usize, kind: Kind, present: bool, alone: bool) -
 }
 
 #[tactic(auto, unfolding(crate::specs::Field::read_load))]
-pub fn read_load(s: &[u8], at: usize, most: usize, present: bool) -> LoadRead
+pub fn read_load(s: &[u8], at: usize, most: usize, present: bool) -> Result<Load, Refusal>
     ensures { result ≡ read_load s.now at most present }
 {
     if !present {
-        return LoadRead::Got(at, 0, at);
+        return Ok(Load {
+            start: at,
+            len: 0,
+            next: at,
+        });
     }
-    let Read8::Got(n, start) = crate::number::get8(s, at) else {
-        return LoadRead::Refused(Refusal::Missing);
+    let Some((n, start)) = get(s, at, 1) else {
+        return Err(Refusal::Missing);
     };
     let len = n as usize;
     if most < len {
-        return LoadRead::Refused(Refusal::Payload);
+        return Err(Refusal::Payload);
     }
-    let Part::Got(next) = crate::number::get_part(s, start, len) else {
-        return LoadRead::Refused(Refusal::Missing);
+    let Some(next) = get_part(s, start, len) else {
+        return Err(Refusal::Missing);
     };
-    LoadRead::Got(start, len, next)
-}
-
-fn why_flags(r: FlagsRead) -> ItemRead
-    ensures { result ≡ why_flags r }
-{
-    match r {
-        FlagsRead::Got(_, _, _) => ItemRead::Refused(Refusal::Missing),
-        FlagsRead::Refused(why) => ItemRead::Refused(why),
-    }
-}
-
-fn why_state(r: StateRead) -> ItemRead
-    ensures { result ≡ why_state r }
-{
-    match r {
-        StateRead::Got(_, _) => ItemRead::Refused(Refusal::Missing),
-        StateRead::Refused(why) => ItemRead::Refused(why),
-    }
-}
-
-fn why_ident(r: IdentRead) -> ItemRead
-    ensures { result ≡ why_ident r }
-{
-    match r {
-        IdentRead::Got(_, _) => ItemRead::Refused(Refusal::Missing),
-        IdentRead::Refused(why) => ItemRead::Refused(why),
-    }
-}
-
-fn why_load(r: LoadRead) -> ItemRead
-    ensures { result ≡ why_load r }
-{
-    match r {
-        LoadRead::Got(_, _, _) => ItemRead::Refused(Refusal::Missing),
-        LoadRead::Refused(why) => ItemRead::Refused(why),
-    }
+    Ok(Load { start, len, next })
 }
 
 #[tactic(auto, unfolding(crate::specs::Field::read_item))]
-pub fn read_item(s: &[u8], at: usize) -> ItemRead
+pub fn read_item(s: &[u8], at: usize) -> Result<Decoded, Refusal>
     ensures { result ≡ read_item s.now at }
 {
-    let Read16::Got(ticks, a) = crate::number::get16(s, at) else {
-        return ItemRead::Refused(Refusal::Missing);
+    let Some((ticks, a)) = get(s, at, 2) else {
+        return Err(Refusal::Missing);
     };
-    let flags = read_flags(s, a);
-    let FlagsRead::Got(kind, set, b) = flags else {
-        return why_flags(flags);
+    let (kind, set, b) = read_flags(s, a)?;
+    let Some((network, d)) = get(s, b, 1) else {
+        return Err(Refusal::Missing);
     };
-    let Read8::Got(network, d) = crate::number::get8(s, b) else {
-        return ItemRead::Refused(Refusal::Missing);
-    };
-    let shown = read_state(s, d, kind, set >> 2 & 1 == 1);
-    let StateRead::Got(state, e) = shown else {
-        return why_state(shown);
-    };
-    let id = read_ident(s, e, kind, set >> 1 & 1 == 1, set == 6);
-    let IdentRead::Got(ident, f) = id else {
-        return why_ident(id);
-    };
+    let (state, e) = read_state(s, d, kind, set >> 2 & 1 == 1)?;
+    let (ident, f) = read_ident(s, e, kind, set >> 1 & 1 == 1, set == 6)?;
     let carries = set & 1 == 1;
-    let load = read_load(s, f, crate::ident::most_of(ident), carries);
-    let LoadRead::Got(start, len, next) = load else {
-        return why_load(load);
-    };
-    ItemRead::Got {
+    let load = read_load(s, f, crate::ident::most_of(ident), carries)?;
+    Ok(Decoded {
         item: Item {
-            offset: Ticks(ticks),
-            network,
+            offset: Ticks(ticks as u16),
+            network: network as u8,
             state,
             ident,
             carries,
         },
-        start,
-        len,
-        next,
-    }
+        start: load.start,
+        len: load.len,
+        next: load.next,
+    })
 }
 
 // The n bytes of s from index start, as that very part of s; nothing where they are not all there.
@@ -300,11 +255,8 @@ pub fn read_item(s: &[u8], at: usize) -> ItemRead
 pub fn part_at(s: &[u8], start: usize, n: usize) -> &[u8]
     ensures { result.now ≡ bytes_at s.now start n }
 {
-    if s.len() < n {
-        return &s[..0];
+    match get_part(s, start, n) {
+        Some(end) => &s[start..end],
+        None => &s[..0],
     }
-    if s.len() - n < start {
-        return &s[..0];
-    }
-    &s[start..start + n]
 }

@@ -4,7 +4,6 @@ ghost use Rattle.codec.specs.Number.{Wrote, Laid};
 ghost use Rattle.codec.specs.Time.{time_ok};
 ghost use Rattle.codec.specs.Header.{header_bytes, read_header};
 
-use crate::number::Put;
 use crate::refusal::Refusal;
 use crate::time::Time;
 
@@ -13,12 +12,6 @@ pub struct Header {
     pub sequence: u8,
     pub time: Time,
     pub length: u16,
-}
-
-#[derive(Clone, Copy)]
-pub enum HeaderRead {
-    Got(Header),
-    Refused(Refusal),
 }
 
 fn lay_front(out: &mut [u8], at: usize, sequence: u8) -> usize
@@ -30,18 +23,13 @@ fn lay_front(out: &mut [u8], at: usize, sequence: u8) -> usize
     at + 2
 }
 
-pub fn write_header(out: &mut [u8], at: usize, h: Header) -> Put
+pub fn write_header(out: &mut [u8], at: usize, h: Header) -> Option<usize>
     ensures { Wrote (time_ok h.time) out.old at (header_bytes h) out.new result }
 {
     if !crate::time::in_range(h.time) {
-        return Put::Nothing;
+        return None;
     }
-    if out.len() < 14 {
-        return Put::Nothing;
-    }
-    if out.len() - 14 < at {
-        return Put::Nothing;
-    }
+    crate::number::get_part(out, at, 14)?;
     let a = lay_front(out, at, h.sequence);
     let time = h.time;
     crate::number::put_be(out, a, time.sec, 6);
@@ -49,28 +37,29 @@ pub fn write_header(out: &mut [u8], at: usize, h: Header) -> Put
     crate::number::put_be(out, b, time.nano as u64, 4);
     let d = b + 4;
     crate::number::put_be(out, d, h.length as u64, 2);
-    Put::Next(d + 2)
+    Some(d + 2)
 }
 
 // 20 under 14 bytes, 21 version, 28 nanoseconds, 22 DataLength isn't the rest.
-pub fn read_header(s: &[u8]) -> HeaderRead
+#[tactic(auto, using(crate::proofs::NumberLaws::word_is), unfolding(crate::specs::Header::read_header))]
+pub fn read_header(s: &[u8]) -> Result<Header, Refusal>
     ensures { result ≡ read_header s.now }
 {
     if s.len() < 14 {
-        return HeaderRead::Refused(Refusal::Short);
+        return Err(Refusal::Short);
     }
     if s[0] != 1 {
-        return HeaderRead::Refused(Refusal::Version);
+        return Err(Refusal::Version);
     }
     let nano = crate::number::word_at(s, 8, 4);
     if 999999999 < nano {
-        return HeaderRead::Refused(Refusal::Nanos);
+        return Err(Refusal::Nanos);
     }
     let length = crate::number::word_at(s, 12, 2);
     if length as usize != s.len() - 14 {
-        return HeaderRead::Refused(Refusal::Length);
+        return Err(Refusal::Length);
     }
-    HeaderRead::Got(Header {
+    Ok(Header {
         sequence: s[1],
         time: Time {
             sec: crate::number::word_at(s, 2, 6),

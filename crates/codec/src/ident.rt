@@ -3,7 +3,9 @@ ghost use Rattle.std.specs.Prelude.{◌≡◌};
 ghost use Rattle.codec.specs.Ident.{network_type, kind_in, kind_of, can_zero, can_range, can_fd, pid_ok, channels_ok, flexray_range, ident_ok, can_most, most_of};
 ghost use Rattle.codec.specs.Number.{Below};
 
-#[derive(Clone, Copy, PartialEq, Eq)]
+use crate::refusal::Refusal;
+
+#[derive(Clone, Copy, Debug, PartialEq, Eq)]
 pub enum Kind {
     Can,
     Lin,
@@ -21,36 +23,32 @@ pub enum Ident {
     Bare(Kind),
 }
 
-#[derive(Clone, Copy)]
-pub enum KindRead {
-    Got(Kind),
-    Unknown,
-}
+impl From<Kind> for u8 {
+    ghost from_gives = { λ k n. Below (network_type k) 4 n };
 
-pub fn network_type(k: Kind) -> u8
-    ensures { Below (network_type k) 4 result }
-{
-    match k {
-        Kind::Can => 1,
-        Kind::Lin => 2,
-        Kind::FlexRay => 3,
+    fn from(k: Kind) -> u8 {
+        match k {
+            Kind::Can => 1,
+            Kind::Lin => 2,
+            Kind::FlexRay => 3,
+        }
     }
 }
 
-#[tactic(auto, unfolding(crate::specs::Ident::kind_in))]
-pub fn kind_in(n: u8) -> KindRead
-    ensures { result ≡ kind_in n }
-{
-    if n == 1 {
-        return KindRead::Got(Kind::Can);
+impl TryFrom<u8> for Kind {
+    type Error = Refusal;
+
+    ghost try_from_gives = { λ n r. r ≡ kind_in n };
+
+    #[tactic(auto, unfolding(crate::specs::Ident::kind_in))]
+    fn try_from(n: u8) -> Result<Kind, Refusal> {
+        match n {
+            1 => Ok(Kind::Can),
+            2 => Ok(Kind::Lin),
+            3 => Ok(Kind::FlexRay),
+            _ => Err(Refusal::Network),
+        }
     }
-    if n == 2 {
-        return KindRead::Got(Kind::Lin);
-    }
-    if n == 3 {
-        return KindRead::Got(Kind::FlexRay);
-    }
-    KindRead::Unknown
 }
 
 pub fn kind_of(id: Ident) -> Kind
@@ -59,12 +57,7 @@ pub fn kind_of(id: Ident) -> Kind
     match id {
         Ident::Can(_) => Kind::Can,
         Ident::Lin(_) => Kind::Lin,
-        Ident::FlexRay {
-            channels: _,
-            slot: _,
-            cycle: _,
-        } => Kind::FlexRay,
-        Ident::FlexRayError(_) => Kind::FlexRay,
+        Ident::FlexRay { .. } | Ident::FlexRayError(_) => Kind::FlexRay,
         Ident::Bare(k) => k,
     }
 }
@@ -110,10 +103,10 @@ pub fn channels_ok(channels: u32) -> bool
 }
 
 #[tactic(auto, unfolding(crate::specs::Ident::flexray_range))]
-pub fn flexray_range(channels: u8, slot: u16, cycle: u8) -> bool
+pub fn flexray_range(channels: u32, slot: u32, cycle: u32) -> bool
     ensures { result ≡ flexray_range channels slot cycle }
 {
-    (1 <= channels) & (channels <= 3) & (1 <= slot) & (slot <= 2047) & (cycle <= 63)
+    channels_ok(channels) & (1 <= slot) & (slot <= 2047) & (cycle <= 63)
 }
 
 pub fn ident_ok(id: Ident) -> bool
@@ -121,13 +114,13 @@ pub fn ident_ok(id: Ident) -> bool
 {
     match id {
         Ident::Can(key) => can_zero(key) & can_range(key),
-        Ident::Lin(pid) => pid_ok(pid as u32),
+        Ident::Lin(pid) => pid_ok(u32::from(pid)),
         Ident::FlexRay {
             channels,
             slot,
             cycle,
-        } => flexray_range(channels, slot, cycle),
-        Ident::FlexRayError(channels) => channels_ok(channels as u32),
+        } => flexray_range(u32::from(channels), u32::from(slot), u32::from(cycle)),
+        Ident::FlexRayError(channels) => channels_ok(u32::from(channels)),
         Ident::Bare(_) => true,
     }
 }
@@ -145,12 +138,7 @@ pub fn most_of(id: Ident) -> usize
     match id {
         Ident::Can(key) => can_most(can_fd(key)),
         Ident::Lin(_) => 8,
-        Ident::FlexRay {
-            channels: _,
-            slot: _,
-            cycle: _,
-        } => 254,
-        Ident::FlexRayError(_) => 0,
-        Ident::Bare(_) => 0,
+        Ident::FlexRay { .. } => 254,
+        Ident::FlexRayError(_) | Ident::Bare(_) => 0,
     }
 }

@@ -6,55 +6,33 @@ ghost use Rattle.codec.specs.Ident.{ident_bytes, ident_bit, ident_ok};
 ghost use Rattle.codec.specs.Item.{state_bytes, state_bit, lin_zero, shown_ok, state_ok, set_ok, set_for, set_of, load_ok, load_bytes, load_length, flags_of, encode, item_ok, item_length};
 
 use crate::ident::{Ident, Kind};
-use crate::number::Put;
 use crate::time::Ticks;
-
-// The state byte that an item shows.
-#[derive(Clone, Copy)]
-pub enum State {
-    Byte(u8),
-    Absent,
-}
 
 #[derive(Clone, Copy)]
 pub struct Item {
     pub offset: Ticks,
     pub network: u8,
-    pub state: State,
+    // the state byte that the item shows
+    pub state: Option<u8>,
     pub ident: Ident,
+    // whether a payload is present, which may be empty; it stays beside the item (the paper's form for items)
     pub carries: bool,
-}
-
-fn state_bit(state: State) -> u8
-    ensures { Below (state_bit state) 2 result }
-{
-    match state {
-        State::Byte(_) => 1,
-        State::Absent => 0,
-    }
 }
 
 fn ident_bit(ident: Ident) -> u8
     ensures { Below (ident_bit ident) 2 result }
 {
     match ident {
-        Ident::Can(_) => 1,
-        Ident::Lin(_) => 1,
-        Ident::FlexRay {
-            channels: _,
-            slot: _,
-            cycle: _,
-        } => 1,
-        Ident::FlexRayError(_) => 1,
         Ident::Bare(_) => 0,
+        _ => 1,
     }
 }
 
-// Which of state, id and payload are present, as bits 2, 1 and 0.
-fn set_of(state: State, ident: Ident, carries: bool) -> u8
+// Which of state, id and payload are present, as bits 2, 1 and 0: the wire's own bits, as `read_flags` gives them.
+fn set_of(state: Option<u8>, ident: Ident, carries: bool) -> u8
     ensures { Below (set_of state ident carries) 8 result }
 {
-    state_bit(state) << 2 | ident_bit(ident) << 1 | carries as u8
+    u8::from(state.is_some()) << 2 | ident_bit(ident) << 1 | u8::from(carries)
 }
 
 pub fn set_ok(set: u8) -> bool
@@ -67,17 +45,9 @@ pub fn set_ok(set: u8) -> bool
 fn set_for(ident: Ident, set: u8) -> bool
     ensures { result ≡ set_for ident set }
 {
-    let known = set_ok(set);
     match ident {
-        Ident::Can(_) => known,
-        Ident::Lin(_) => known,
-        Ident::FlexRay {
-            channels: _,
-            slot: _,
-            cycle: _,
-        } => known,
         Ident::FlexRayError(_) => set == 6,
-        Ident::Bare(_) => known,
+        _ => set_ok(set),
     }
 }
 
@@ -93,18 +63,17 @@ fn shown_ok(kind: Kind, b: u8) -> bool
     ensures { result ≡ shown_ok kind b }
 {
     match kind {
-        Kind::Can => true,
         Kind::Lin => lin_zero(b),
-        Kind::FlexRay => true,
+        Kind::Can | Kind::FlexRay => true,
     }
 }
 
-pub fn state_ok(kind: Kind, state: State) -> bool
+pub fn state_ok(kind: Kind, state: Option<u8>) -> bool
     ensures { result ≡ state_ok kind state }
 {
     match state {
-        State::Byte(b) => shown_ok(kind, b),
-        State::Absent => true,
+        Some(b) => shown_ok(kind, b),
+        None => true,
     }
 }
 
@@ -119,23 +88,11 @@ fn load_ok(carries: bool, most: usize, n: usize) -> bool
 pub fn item_ok(item: Item, n: usize) -> bool
     ensures { result ≡ item_ok item n }
 {
-    let state = item.state;
     let ident = item.ident;
-    let carries = item.carries;
-    let set = set_for(ident, set_of(state, ident, carries));
-    let bits = state_ok(crate::ident::kind_of(ident), state);
-    let id = crate::ident::ident_ok(ident);
-    let load = load_ok(carries, crate::ident::most_of(ident), n);
-    set & bits & id & load
-}
-
-fn state_len(state: State) -> usize
-    ensures { Sized (state_bytes state) 1 result }
-{
-    match state {
-        State::Byte(_) => 1,
-        State::Absent => 0,
-    }
+    let set = set_for(ident, set_of(item.state, ident, item.carries));
+    let bits = state_ok(crate::ident::kind_of(ident), item.state);
+    let load = load_ok(item.carries, crate::ident::most_of(ident), n);
+    set & bits & crate::ident::ident_ok(ident) & load
 }
 
 fn ident_len(ident: Ident) -> usize
@@ -144,12 +101,7 @@ fn ident_len(ident: Ident) -> usize
     match ident {
         Ident::Can(_) => 4,
         Ident::Lin(_) => 1,
-        Ident::FlexRay {
-            channels: _,
-            slot: _,
-            cycle: _,
-        } => 3,
-        Ident::FlexRayError(_) => 3,
+        Ident::FlexRay { .. } | Ident::FlexRayError(_) => 3,
         Ident::Bare(_) => 0,
     }
 }
@@ -157,27 +109,22 @@ fn ident_len(ident: Ident) -> usize
 fn load_len(carries: bool, n: u8) -> usize
     ensures { Below (load_length carries n) 257 result }
 {
-    if carries { 1 + n as usize } else { 0 }
+    if carries { 1 + usize::from(n) } else { 0 }
 }
 
 // How many bytes the item is with a payload of n bytes.
 pub fn item_len(item: Item, n: u8) -> usize
     ensures { Below (item_length item n) 266 result }
 {
-    let state = item.state;
-    let ident = item.ident;
-    4 + state_len(state) + ident_len(ident) + load_len(item.carries, n)
+    4 + usize::from(item.state.is_some()) + ident_len(item.ident) + load_len(item.carries, n)
 }
 
 // State-present in bit 7, id-present in bit 6, payload-present in bit 5, network type in bits 4 to 0.
 fn flags_of(item: Item) -> u8
     ensures { result ≡ flags_of item }
 {
-    let state = item.state;
-    let ident = item.ident;
-    let set = set_of(state, ident, item.carries);
-    let kind = crate::ident::network_type(crate::ident::kind_of(ident));
-    set << 5 | kind
+    let set = set_of(item.state, item.ident, item.carries);
+    set << 5 | u8::from(crate::ident::kind_of(item.ident))
 }
 
 fn lay_front(out: &mut [u8], at: usize, offset: u16, flags: u8, network: u8) -> usize
@@ -192,16 +139,16 @@ fn lay_front(out: &mut [u8], at: usize, offset: u16, flags: u8, network: u8) -> 
     at + 4
 }
 
-fn lay_state(out: &mut [u8], at: usize, state: State) -> usize
+fn lay_state(out: &mut [u8], at: usize, state: Option<u8>) -> usize
     requires { at + length (state_bytes state) ≤ length out.old }
     ensures { Laid out.old at (state_bytes state) out.new result }
 {
     match state {
-        State::Byte(b) => {
+        Some(b) => {
             out[at] = b;
             at + 1
         }
-        State::Absent => at,
+        None => at,
     }
 }
 
@@ -269,27 +216,18 @@ fn lay_load(out: &mut [u8], at: usize, carries: bool, payload: &[u8]) -> usize
     at + 1 + n
 }
 
-pub fn write_item(out: &mut [u8], at: usize, item: Item, payload: &[u8]) -> Put
+pub fn write_item(out: &mut [u8], at: usize, item: Item, payload: &[u8]) -> Option<usize>
     ensures { Wrote (item_ok item (length payload.now)) out.old at (encode item payload.now) out.new result }
 {
     let n = payload.len();
     if !item_ok(item, n) {
-        return Put::Nothing;
+        return None;
     }
     let size = item_len(item, n as u8);
-    if out.len() < size {
-        return Put::Nothing;
-    }
-    if out.len() - size < at {
-        return Put::Nothing;
-    }
-    let state = item.state;
-    let ident = item.ident;
-    let offset = item.offset.0;
+    crate::number::get_part(out, at, size)?;
     let flags = flags_of(item);
-    let a = lay_front(out, at, offset, flags, item.network);
-    let b = lay_state(out, a, state);
-    let d = lay_ident(out, b, ident);
-    let e = lay_load(out, d, item.carries, payload);
-    Put::Next(e)
+    let a = lay_front(out, at, item.offset.0, flags, item.network);
+    let b = lay_state(out, a, item.state);
+    let d = lay_ident(out, b, item.ident);
+    Some(lay_load(out, d, item.carries, payload))
 }

@@ -1,15 +1,12 @@
-use Rattle.std.proofs.Common.{arith}
-use Rattle.codec.proofs.NumberLaws.{down, down_last, full, length-be}
+use Rattle.std.proofs.Common.{sym}
+use Rattle.codec.proofs.NumberLaws.{down, down_last, unwritten, length-be}
 use Rattle.codec.proofs.number.put_be.Goals as goal
 
-pub returns-then-out-n : goal.returns-then-out-n
-returns-then-out-n c = full (omega (arith, length-be c.args.n c.args.v))
-
-pub returns-then-out-n-2 : goal.returns-then-out-n-2
-returns-then-out-n-2 c = full (omega (arith, length-be c.args.n c.args.v))
+pub returns-in_err-next : goal.returns-in_err-next
+returns-in_err-next c = unwritten c.from_residual.ensures c.in_err-next.ensures.room (sym (length-be _ _))
 
 pub loop-i-preserved : goal.loop-i-preserved
-loop-i-preserved c = down _ c.loop-i.invariant c.loop-i-test.true (omega arith) c.low8.ensures
+loop-i-preserved c = down _ c.loop-i.invariant c.loop-i-test.true c.in_ok-next.ensures.room.1 c.low8.ensures
 
 pub returns : goal.returns
-returns c = down_last c.loop-i.invariant c.loop-i-test.false (omega arith)
+returns c = let r = c.in_ok-next.ensures.room in down_last c.args.n c.loop-i.invariant c.loop-i-test.false r.0 r.1

@@ -1,12 +1,6 @@
-use Rattle.std.proofs.Common.{arith}
-use Rattle.codec.proofs.NumberLaws.{full, copying_end}
+use Rattle.std.proofs.Common.{refl}
+use Rattle.codec.proofs.NumberLaws.{unwritten}
 use Rattle.codec.proofs.number.put_bytes.Goals as goal
 
-pub returns-then-out-n : goal.returns-then-out-n
-returns-then-out-n c = full (omega arith)
-
-pub returns-then-out-n-2 : goal.returns-then-out-n-2
-returns-then-out-n-2 c = full (omega arith)
-
-pub returns : goal.returns
-returns c = copying_end c.loop-i.invariant c.loop-i-test.false (omega arith)
+pub returns-in_err-next : goal.returns-in_err-next
+returns-in_err-next c = unwritten c.from_residual.ensures c.in_err-next.ensures.room refl
