@@ -19,7 +19,7 @@ use Rattle.codec.specs.Item.{item_length}
 use Rattle.codec.specs.declared.time.Time.{Time}
 use Rattle.codec.specs.declared.ident.Kind.TheVariants as Kind
 use Rattle.codec.specs.declared.ident.Ident.{Ident}
-use Rattle.codec.specs.declared.item.State.TheVariants as State
+use Rattle.std.specs.Prelude.{Some}
 use Rattle.std.specs.Prelude.{Ok}
 use Rattle.framer.specs.Cause.{guard}
 use Rattle.framer.specs.declared.cause.Cause.{Cause}
@@ -111,7 +111,7 @@ pub record Passed (count f : ℕ) (s : Source) (r : Report) (n : ℕ) : Type 0 w
   pub ranged : r.ranged ≡ true
   pub most : n ≤ most_of r.ident
   pub passes : filtered r.ident ≡ true → passes s.places r.ident ≡ true
-  pub fits : 14 + item_length (record { offset = record { 0 = 0 }; network = 0; state = State.Byte 0; ident = r.ident; carries = r.carries }) n ≤ f
+  pub fits : 14 + item_length (record { offset = record { 0 = 0 }; network = 0; state = Some 0; ident = r.ident; carries = r.carries }) n ≤ f
 
 pub cause_passed : (count f : ℕ) (s : Source) (r : Report) (n : ℕ) → report_cause count f s r n ≡ Ok tt → Passed count f s r n
 unfolding report_cause too_big
@@ -132,7 +132,7 @@ cause_passed count f s r n e =
       ranged = z5.0;
       most = leb-true n (most_of r.ident) z6.0;
       passes = λ a. rw a at z1.0;
-      fits = ltb-false f (14 + item_length (record { offset = record { 0 = 0 }; network = 0; state = State.Byte 0; ident = r.ident; carries = r.carries }) n) (not-true _ z8.0);
+      fits = ltb-false f (14 + item_length (record { offset = record { 0 = 0 }; network = 0; state = Some 0; ident = r.ident; carries = r.carries }) n) (not-true _ z8.0);
     }
 
 -- an error without a frame is refused with 7, 2, 4, 3 or 5: it has no payload, no filter is asked, and it fits every frame

@@ -7,7 +7,7 @@ use Rattle.codec.specs.Ident.{ident_ok, kind_of, most_of, channels_ok, flexray_r
 use Rattle.codec.specs.Item.{item_length}
 use Rattle.codec.specs.declared.time.Time.{Time}
 use Rattle.codec.specs.declared.ident.Ident.{Ident}
-use Rattle.codec.specs.declared.item.State.TheVariants as State
+use Rattle.std.specs.Prelude.{Some}
 use Rattle.framer.specs.Cause.{guard}
 use Rattle.framer.specs.declared.cause.Cause.{Cause}
 use Rattle.framer.specs.declared.offer.Offer.{Offer}
@@ -82,7 +82,7 @@ unfoldable pub too_big : ℕ → Report → ℕ → Bool
 too_big f r n = ltb f (14 + item_length (record {
   offset = record { 0 = 0 };
   network = 0;
-  state = State.Byte 0;
+  state = Some 0;
   ident = r.ident;
   carries = r.carries;
 }) n)

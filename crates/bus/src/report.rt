@@ -1,12 +1,11 @@
 // Reports of the three buses as one kind of thing: whether one is refused, what it hands over to be mirrored,
 // and what it leaves of its source.
 ghost use Rattle.std.specs.Prelude.{◌≡◌, true, false};
-ghost use Rattle.codec.specs.Ident.{flexray_range};
 ghost use Rattle.bus.specs.Report.{can_report, lin_report, flexray_report, frame_report, conflict_report, error_bits, error_report, too_big, report_cause, noted, insists, offer_of, settled};
 
 use crate::source::Source;
 use codec::ident::Ident;
-use codec::item::{Item, State};
+use codec::item::Item;
 use codec::time::{Ticks, Time};
 use framer::cause::{Cause, check};
 use framer::offer::Offer;
@@ -22,13 +21,6 @@ pub struct Report {
     // the bits of the state byte that are not bound to this frame, and the frame-bound ones that it raises
     pub kept: u8,
     pub raised: u8,
-}
-
-#[tactic(auto, unfolding(codec::specs::Ident::flexray_range))]
-fn flexray_ok(channels: u32, slot: u32, cycle: u32) -> bool
-    ensures { result ≡ flexray_range channels slot cycle }
-{
-    (1 <= channels) & (channels <= 3) & (1 <= slot) & (slot <= 2047) & (cycle <= 63)
 }
 
 #[tactic(auto, unfolding(crate::specs::Report::can_report))]
@@ -85,7 +77,7 @@ fn flexray_report(
             cycle: codec::number::low8(cycle as u64),
         },
         carries,
-        ranged: flexray_ok(channels, slot, cycle),
+        ranged: codec::ident::flexray_range(channels, slot, cycle),
         kept,
         raised,
     }
@@ -136,7 +128,7 @@ fn too_big(f: usize, r: Report, n: u8) -> bool
     let item = Item {
         offset: Ticks(0),
         network: 0,
-        state: State::Byte(0),
+        state: Some(0),
         ident,
         carries: r.carries,
     };

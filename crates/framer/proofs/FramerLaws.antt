@@ -12,14 +12,13 @@ use Rattle.framer.specs.declared.meter.Meter.{Meter}
 use Rattle.codec.specs.Number.{over, fits, Wrote}
 use Rattle.framer.specs.declared.cause.Cause.{Cause}
 use Rattle.framer.specs.declared.queue.Queue.{Queue}
-use Rattle.std.specs.Prelude.{Result, Ok, Err}
+use Rattle.std.specs.Prelude.{Option, Result, Ok, Err}
 use Rattle.framer.specs.Cause.{number_of, answer_of, guard}
 use Rattle.framer.specs.Queue.{queued, length_at}
 use Rattle.framer.specs.Meter.{closes_for, is_within, back_in, item_of, sound_meter, Sound, start_of, closed_meter, slot_of, counted, placed_meter, taken_meter, failed_meter, offset_for}
 use Rattle.framer.specs.Framer.{closed, begun, laid_out, item_size, filled_meter, filled_bytes, placed, added, add, passed, ready_of, take_of, out_of}
 use Rattle.framer.specs.declared.framer.Framer.{Framer}
 use Rattle.codec.specs.declared.item.Item.{Item}
-use Rattle.codec.specs.declared.number.Put.{Put}
 use Rattle.codec.specs.Field.{bytes_at}
 use Rattle.codec.proofs.NumberLaws.{kept}
 
@@ -257,7 +256,7 @@ pub take_refused : (w : Framer) (out : List ℕ) (r : Result ℕ Cause) (c : Cau
 unfolding take_of out_of
 take_refused w out r c e q = (rw (← e, q), rw (← e, q))
 
-pub take_done : (w : Framer) (out : List ℕ) (r : Result ℕ Cause) (n : ℕ) (m : Meter) (part after : List ℕ) {k : Put} → r ≡ ready_of w (length out)
+pub take_done : (w : Framer) (out : List ℕ) (r : Result ℕ Cause) (n : ℕ) (m : Meter) (part after : List ℕ) {k : Option ℕ} → r ≡ ready_of w (length out)
     → r ≡ Ok n → m ≡ taken_meter w.meter → part ≡ bytes_at w.queue.bytes (w.meter.first * 1024) n → Wrote true out 0 part after k
     → (record { framer = record { meter = m; bytes = w.bytes; queue = w.queue }; answer = Ok n } ≡ take_of w (length out)) × (after ≡ out_of w out)
 unfolding take_of out_of
