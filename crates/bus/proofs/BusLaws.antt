@@ -4,9 +4,7 @@ use mathlib.Core.Path.{◌≡◌, refl, sym, ◌∙◌}
 use mathlib.Core.Bool.{Bool, true, false, not, ◌&&◌, ◌||◌}
 use mathlib.Core.List.{List, [], ◌∷◌, map}
 use native.Mathlib.Omega.{arith}
-use native.Mathlib.Numerals.{add-one}
-use lib.ListN.{length, drop, get_or, length-map, drop_of_length-le}
-use lib.Seq.{drop-cons}
+use lib.ListN.{length, length-map}
 use lib.Dec.{leb, ltb}
 use lib.Bits.{bit_and, bit_or, or_shifted, and_mask}
 use mir.Val.{bool_byte}
@@ -19,13 +17,14 @@ use Rattle.codec.specs.Item.{item_length}
 use Rattle.codec.specs.declared.time.Time.{Time}
 use Rattle.codec.specs.declared.ident.Kind.TheVariants as Kind
 use Rattle.codec.specs.declared.ident.Ident.{Ident}
-use Rattle.std.specs.Prelude.{Some}
+use Rattle.std.specs.Prelude.{Some, None, cond}
 use Rattle.std.specs.Prelude.{Ok}
 use Rattle.framer.specs.Cause.{guard}
 use Rattle.framer.specs.declared.cause.Cause.{Cause}
 use Rattle.framer.proofs.FramerLaws.{passed-guard}
 use Rattle.bus.specs.Filter.{matches, filtered, is_free, same_kind}
-use Rattle.bus.specs.Source.{passes, free_at, add_cause}
+use Rattle.std.specs.List.{list_any, position_or_len}
+use Rattle.bus.specs.Source.{passes, free_at, free_in, add_cause}
 use Rattle.bus.specs.Report.{error_bits, error_report, too_big, report_cause}
 use Rattle.bus.specs.Update.{update_cause}
 use Rattle.bus.specs.declared.filter.Filter.{Filter}
@@ -39,22 +38,27 @@ use Rattle.bus.specs.declared.update.Update.{Update}
 pub length_mapped : {X Y : Type 0} (f : X → Y) (l : List X) (n : ℕ) → length (map f l) ≡ n → length l ≡ n
 length_mapped f l n e = sym (length-map l f) ∙ e
 
--- the places that are left to look at
-module _ (ps : List Place) (i : ℕ) (d : Place) (h : i < length ps) where
-  pub passes_hit : (id : Ident) → matches (get_or ps i d).filter id ≡ true → passes (drop i ps) id ≡ true
-  passes_hit id e = rw (drop-cons ps i d, e)
+-- a walk over the places
+pub any_passes : (ps : List Place) (id : Ident) → list_any (λ (p : Place). matches p.filter id) ps ≡ passes ps id
+any_passes [] id = refl
+any_passes (p ∷ ps) id = rw (any_passes ps id)
 
-  pub passes_miss : (id : Ident) → matches (get_or ps i d).filter id ≡ false → passes (drop i ps) id ≡ passes (drop (i + 1) ps) id
-  passes_miss id e = rw (add-one, drop-cons ps i d, e)
+pub position_free : (ps : List Place) → position_or_len (λ (p : Place). is_free p.filter) ps ≡ free_at ps
+position_free [] = refl
+position_free (p ∷ ps) = rw (position_free ps) (go (is_free p.filter))
+  where
+    go : (b : Bool) → cond (not b) (1 + free_at ps) 0 ≡ pick b 0 (suc (free_at ps))
+    go true = refl
+    go false = omega arith
 
-  pub free_hit : is_free (get_or ps i d).filter ≡ true → i + free_at (drop i ps) ≡ i
-  free_hit e = rw (drop-cons ps i d, e) (omega arith)
-
-  pub free_miss : is_free (get_or ps i d).filter ≡ false → i + free_at (drop i ps) ≡ i + 1 + free_at (drop (i + 1) ps)
-  free_miss e = rw (add-one, drop-cons ps i d, e) (omega arith)
-
-pub passes_end : (ps : List Place) (i : ℕ) (id : Ident) → length ps ≤ i → passes (drop i ps) id ≡ false
-passes_end ps i id h = rw (drop_of_length-le ps h)
+pub free_found : (ps : List Place) (n : ℕ) → n ≡ position_or_len (λ (p : Place). is_free p.filter) ps → length ps ≡ 8
+    → cond (ltb n (length ps)) (Some n) None ≡ free_in ps
+unfolding free_in
+free_found ps n e h = rw (e, position_free ps, h) (go (ltb (free_at ps) 8))
+  where
+    go : (b : Bool) → cond b (Some (free_at ps)) None ≡ pick b (Some (free_at ps)) None
+    go true = refl
+    go false = refl
 
 -- ids that each filter treats alike, and ids that none matches
 pub passes_alike : (ps : List Place) (a b : Ident) → ((f : Filter) → matches f a ≡ matches f b) → passes ps a ≡ passes ps b
@@ -64,9 +68,6 @@ passes_alike (p ∷ ps) a b e = rw (e p.filter, passes_alike ps a b e)
 pub passes_none : (ps : List Place) (id : Ident) → ((f : Filter) → matches f id ≡ false) → passes ps id ≡ false
 passes_none [] id e = refl
 passes_none (p ∷ ps) id e = rw (e p.filter, passes_none ps id e)
-
-pub free_end : (ps : List Place) (i : ℕ) → length ps ≤ i → i + free_at (drop i ps) ≡ i
-free_end ps i h = rw (drop_of_length-le ps h) (omega arith)
 
 -- a flag in its place
 bit_small : (b : Bool) → bool_byte b < 2

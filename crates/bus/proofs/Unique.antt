@@ -23,7 +23,7 @@ use Rattle.bus.proofs.source.Source.start.Reads as start
 use Rattle.bus.proofs.source.Source.stop.Reads as stop
 use Rattle.bus.proofs.source.Source.passes.Reads as passes
 use Rattle.bus.proofs.source.Source.free_place.Reads as free-place
-use Rattle.bus.proofs.source.Source.add_cause.Reads as add-cause
+use Rattle.bus.proofs.source.Source.place_for.Reads as place-for
 use Rattle.bus.proofs.source.Source.add_filter.Reads as add-filter
 use Rattle.bus.proofs.source.Source.remove_cause.Reads as remove-cause
 use Rattle.bus.proofs.source.Source.remove_filter.Reads as remove-filter
@@ -104,10 +104,10 @@ pub passes_unique : (κs : _) (a : _) (r r' : _) (x x' : _) → passes.Post κs 
 passes_unique κs a r r' x x' p q = p ∙ sym q
 
 pub free_place_unique : (κs : _) (a : _) (r r' : _) (x x' : _) → free-place.Post κs a r x → free-place.Post κs a r' x' → r ≡ r'
-free_place_unique κs a r r' x x' p q = p.is ∙ sym q.is
+free_place_unique κs a r r' x x' p q = p ∙ sym q
 
-pub add_cause_unique : (κs : _) (a : _) (r r' : _) (x x' : _) → add-cause.Post κs a r x → add-cause.Post κs a r' x' → r ≡ r'
-add_cause_unique κs a r r' x x' p q = p ∙ sym q
+pub place_for_unique : (κs : _) (a : _) (r r' : _) (x x' : _) → place-for.Post κs a r x → place-for.Post κs a r' x' → r ≡ r'
+place_for_unique κs a r r' x x' p q = p ∙ sym q
 
 pub add_filter_unique : (κs : _) (a : _) (r r' : _) (x x' : _) → add-filter.Post κs a r x → add-filter.Post κs a r' x' → r ≡ r'
 add_filter_unique κs a r r' x x' p q = p ∙ sym q

@@ -1,5 +1,5 @@
 -- A source (docs/RULES.md, "The engine", "Filters", rules 4 and 6).
-use Rattle.std.specs.Prelude.{ℕ, suc, Bool, true, false, not, ◌&&◌, ◌||◌, List, [], ◌∷◌, replicate, get_or, set, ltb, eqb, Result, Ok}
+use Rattle.std.specs.Prelude.{ℕ, suc, Bool, true, false, not, ◌&&◌, ◌||◌, List, [], ◌∷◌, replicate, get_or, set, ltb, eqb, Option, Some, None, Result, Ok}
 use Rattle.codec.specs.Choice.{pick}
 use Rattle.codec.specs.declared.ident.Kind.{Kind}
 use Rattle.codec.specs.declared.ident.Ident.{Ident}
@@ -70,6 +70,10 @@ passes (p ∷ ps) id = matches p.filter id || passes ps id
 abbrev pub free_at : List Place → ℕ
 free_at [] = 0
 free_at (p ∷ ps) = pick (is_free p.filter) 0 (suc (free_at ps))
+
+-- the lowest free place of eight
+unfoldable pub free_in : List Place → Option ℕ
+free_in ps = pick (ltb (free_at ps) 8) (Some (free_at ps)) None
 
 -- filter adding: 2, 4, 9, 10
 unfoldable pub add_cause : ℕ → Source → Addition → Result Unit Cause

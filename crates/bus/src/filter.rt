@@ -136,32 +136,14 @@ fn slot_matches(f: Filter, slot: u16, cycle: u8) -> bool
 pub(crate) fn key_passes(places: [Place; 8], key: u32) -> bool
     ensures { result ≡ passes places (Ident.Can key) }
 {
-    let mut i: usize = 0;
-    while i < 8 {
-        let place = places[i];
-        let filter = place.filter;
-        if key_matches(filter, key) {
-            return true;
-        }
-        i += 1;
-    }
-    false
+    places.iter().any(|place| key_matches(place.filter, key))
 }
 
 // Whether one of a source's places matches a slot and a cycle, on whatever channels.
 pub(crate) fn slot_passes(places: [Place; 8], slot: u16, cycle: u8) -> bool
     ensures { result ≡ passes places (Ident.FlexRay 0 slot cycle) }
 {
-    let mut i: usize = 0;
-    while i < 8 {
-        let place = places[i];
-        let filter = place.filter;
-        if slot_matches(filter, slot, cycle) {
-            return true;
-        }
-        i += 1;
-    }
-    false
+    places.iter().any(|place| slot_matches(place.filter, slot, cycle))
 }
 
 // One filter's answer. A walk over places asks the functions above, since it knows the kind of id.

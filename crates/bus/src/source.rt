@@ -1,7 +1,7 @@
 // A source: what it is, its state byte, what of it was shown, and its eight filter places.
 ghost use Rattle.std.specs.Prelude.{◌≡◌};
-ghost use Rattle.codec.specs.Number.{Below};
-ghost use Rattle.bus.specs.Source.{fresh_source, reset_source, started_source, stopped_source, passes, free_at, add_cause, added_filter, remove_cause, removed_filter, due, tick_due, state_offer, calmed};
+ghost use Rattle.framer.specs.Cause.{gives};
+ghost use Rattle.bus.specs.Source.{fresh_source, reset_source, started_source, stopped_source, passes, free_at, free_in, add_cause, added_filter, remove_cause, removed_filter, due, tick_due, state_offer, calmed};
 
 use crate::filter::{Addition, Filter, Place};
 use codec::ident::{Ident, Kind};
@@ -93,42 +93,31 @@ impl Source {
         crate::filter::key_passes(places, key)
     }
 
-    // The lowest free place, or 8.
-    pub fn free_place(self) -> usize
-        ensures { Below (free_at self.places) 9 result }
+    // The lowest free place.
+    pub fn free_place(self) -> Option<usize>
+        ensures { result ≡ free_in self.places }
     {
-        let mut i: usize = 0;
-        while i < 8 {
-            let place = self.places[i];
-            let filter = place.filter;
-            if crate::filter::is_free(filter) {
-                return i;
-            }
-            i += 1;
-        }
-        8
+        self.places.iter().position(|place| crate::filter::is_free(place.filter))
     }
 
-    // 2, 4, 9, 10
-    #[tactic(auto, unfolding(crate::specs::Source::add_cause, crate::specs::Filter::same_kind))]
-    pub fn add_cause(self, count: usize, a: Addition) -> Result<(), Cause>
-        ensures { result ≡ add_cause count self a }
+    // 2, 4, 9, 10; else the place that a filter gets, which is its number.
+    #[tactic(auto, unfolding(crate::specs::Source::add_cause, crate::specs::Source::free_in, crate::specs::Filter::same_kind))]
+    pub fn place_for(self, count: usize, a: Addition) -> Result<usize, Cause>
+        ensures { result ≡ gives (add_cause count self a) (free_at self.places) }
     {
         check(a.source < count as u64, Cause::NoSource)?;
         check(self.kind == a.kind, Cause::OtherKind)?;
         check(a.good, Cause::BadFilter)?;
-        check(self.free_place() < 8, Cause::NoPlace)
+        self.free_place().ok_or(Cause::NoPlace)
     }
 
     // The filter goes to the lowest free place, if there is one.
-    #[tactic(auto, unfolding(crate::specs::Source::added_filter))]
+    #[tactic(auto, unfolding(crate::specs::Source::added_filter, crate::specs::Source::free_in))]
     pub fn add_filter(mut self, filter: Filter) -> Source
         ensures { result ≡ added_filter self filter }
     {
-        let k = self.free_place();
-        if k < 8 {
+        if let Some(k) = self.free_place() {
             self.places[k] = Place { filter };
-            return self;
         }
         self
     }
@@ -152,7 +141,6 @@ impl Source {
             self.places[number as usize] = Place {
                 filter: Filter::Free,
             };
-            return self;
         }
         self
     }

@@ -30,3 +30,8 @@ answer_of (Err c) = number_of c
 -- a test, and what comes to it where it holds: the first that fails gives the cause
 abbrev pub guard : {A : Type 0} → Bool → Cause → Result A Cause → Result A Cause
 guard good cause rest = pick good rest (Err cause)
+
+-- what is told where nothing speaks against it
+abbrev pub gives : {A : Type 0} → Result Unit Cause → A → Result A Cause
+gives (Ok u) x = Ok x
+gives (Err c) x = Err c
