@@ -1,17 +1,17 @@
 -- Laws of the engine's definitions, over plain variables: each is one `returns` of the code.
 use Prim.Native.Nat.{ℕ, suc, ◌+◌, ◌-◌, ◌≤◌, ◌<◌}
-use mathlib.Core.Path.{◌≡◌, refl, ap, ◌∙◌}
-use mathlib.Core.Bool.{Bool, true, false, not, ◌&&◌}
-use mathlib.Core.List.{List, [], ◌∷◌, ◌++◌, map, map-append, append_assoc, append-nil}
+use mathlib.Core.Path.{◌≡◌, ◌∙◌}
+use mathlib.Core.Bool.{true, false, not, ◌&&◌, true≢false, false≢true}
+use mathlib.Core.List.{List, [], ◌∷◌, map}
 use native.Mathlib.Omega.{arith}
 use native.Mathlib.Numerals.{add-one}
-use lib.ListN.{length, get_or, set, take, drop, length-map, drop_of_length-le}
-use lib.Seq.{drop-cons, take-suc, set_at, length-take-le, take_all}
+use lib.ListN.{length, get_or, set, take, drop}
+use lib.Seq.{take_all}
 use lib.Dec.{leb, eqb}
-use borrow.Author.Tests.{eq-eqb, ne_eqb, lt-leb, le-leb, eqb-true, eqb-false, leb-true}
-use Rattle.std.specs.Prelude.{Result, Ok, Err}
+use borrow.Author.Tests.{leb-true}
+use Rattle.std.specs.Prelude.{Result, Ok, Err, is_ok}
 use Rattle.codec.proofs.BoolLaws.{and_l, and_r}
-use Rattle.framer.specs.Cause.{guard}
+use Rattle.framer.specs.Cause.{guard, gives}
 use Rattle.framer.specs.declared.cause.Cause.{Cause}
 use Rattle.framer.proofs.FramerLaws.{passed-guard}
 use Rattle.framer.proofs.KeptLaws.{limits}
@@ -27,7 +27,7 @@ use Rattle.bus.specs.declared.source.Source.{Source}
 use Rattle.bus.specs.declared.filter.Addition.{Addition}
 use Rattle.bus.specs.declared.report.Report.{Report}
 use Rattle.mirror.specs.Engine.{sound_of, cause_of, answered, index_of, no_source, source_at, with_source}
-use Rattle.mirror.specs.Setup.{source_numbered, pair_ok, named_again, pairs_ok, sources_ok, named, setup_cause, reset_of, switch_cause}
+use Rattle.mirror.specs.Setup.{source_numbered, pairs_ok, sources_ok, named, setup_cause, reset_of, switch_cause}
 use Rattle.mirror.specs.Source.{stored_of, add_of}
 use Rattle.mirror.specs.Report.{reported}
 use Rattle.mirror.specs.Tick.{tick_source, states_of, ticked}
@@ -71,16 +71,14 @@ pub stored_by : (f : Source → Source) (e : Engine) (source k : ℕ) (cause c :
 unfolding stored_of with_source source_at
 stored_by f e source k cause c s x o ek es ex ec eo = eo ∙ rw (← ek, ← es, ← ex, ← ec)
 
-pub add-refused : (e : Engine) (a : Addition) (k : ℕ) (r : Result Unit Cause) (c : Cause) (s : Source) → k ≡ index_of a.source
-    → s ≡ get_or e.sources k no_source → r ≡ cause_of e (add_cause e.count s a) → r ≡ Err c → record { engine = e; answer = Err c } ≡ add_of e a
-unfolding add_of source_at
-add-refused e a k r c s ek es er n = rw (← ek, ← es, ← er, n)
-
-pub add_done : (e : Engine) (a : Addition) (k n : ℕ) (r : Result Unit Cause) (u : Unit) (s x : Source) → k ≡ index_of a.source
-    → s ≡ get_or e.sources k no_source → r ≡ cause_of e (add_cause e.count s a) → r ≡ Ok u → x ≡ added_filter s a.filter → n ≡ free_at s.places
-    → record { engine = record { count = e.count; sources = set e.sources k x; framer = e.framer }; answer = Ok n } ≡ add_of e a
+pub add_by : (e : Engine) (a : Addition) (k : ℕ) (r : Result ℕ Cause) (s : Source) → k ≡ index_of a.source → s ≡ get_or e.sources k no_source
+    → r ≡ gives (cause_of e (add_cause e.count s a)) (free_at s.places) → (q : Result Unit Cause) → cause_of e (add_cause e.count s a) ≡ q
+    → (x : Source) → x ≡ added_filter s a.filter
+    → (is_ok r ≡ true → record { engine = record { count = e.count; sources = set e.sources k x; framer = e.framer }; answer = r } ≡ add_of e a)
+    × (is_ok r ≡ false → record { engine = e; answer = r } ≡ add_of e a)
 unfolding add_of source_at with_source
-add_done e a k n r u s x ek es er z ex en = rw (← ek, ← es, ← er, z, ← ex, ← en)
+add_by e a k r s ek es er (Ok u) g x ex = (λ z. rw (er, ← ek, ← es, g, ← ex), λ z. absurd (true≢false (rw (er, g) at z)))
+add_by e a k r s ek es er (Err c) g x ex = (λ z. absurd (false≢true (rw (er, g) at z)), λ z. rw (er, ← ek, ← es, g))
 
 -- a tick, source by source
 pub states_step : (n k : ℕ) (e x : Engine) (t : Time) → k < n → x ≡ tick_source e k t → states_of (n - k) k e t ≡ states_of (n - (k + 1)) (k + 1) x t
@@ -109,97 +107,21 @@ pub ticked_by : (e x : Engine) (t : Time) (w : Framer) → x ≡ states_of e.cou
 unfolding ticked
 ticked_by e x t w ex ew = rw (← ex, ← ew)
 
--- pairs of kind and id, two by two
-two : (l : List ℕ) (i : ℕ) → i + 1 < length l → drop i l ≡ get_or l i 0 ∷ (get_or l (i + 1) 0 ∷ drop (i + 2) l)
-two l i h =
-    let a : suc i ≡ i + 1 = omega arith in
-    let b : suc (i + 1) ≡ i + 2 = omega arith in
-    drop-cons l i 0 (omega arith) ∙ ap (λ (r : List ℕ). get_or l i 0 ∷ r) (rw a (drop-cons l (i + 1) 0 h ∙ rw b))
+-- the pairs that are left behind the first
+pub named_next : (l : List ℕ) (k : ℕ) (sources : List Source) (x : Source) → 2 ≤ length l → x ≡ source_numbered (get_or l 0 0) (get_or l 1 0)
+    → named k l sources ≡ named (k + 1) (take (length l - 2) (drop 2 l)) (set sources k x)
+named_next [] k sources x h e = let z : ⊥ = omega arith in absurd z
+named_next (a ∷ []) k sources x h e = let z : ⊥ = omega arith in absurd z
+named_next (a ∷ (b ∷ l)) k sources x h e =
+    let n : length (a ∷ (b ∷ l)) - 2 ≡ length l = omega arith in
+    rw (n, take_all (length l) l (omega arith), add-one k, e)
 
-pub again_hit : (kind id : ℕ) (l : List ℕ) (i : ℕ) → i + 1 < length l → (eqb (get_or l i 0) kind && eqb (get_or l (i + 1) 0) id) ≡ true → named_again kind id (drop i l) ≡ true
-again_hit kind id l i h e = rw (two l i h, e)
-
-pub again_miss : (kind id : ℕ) (l : List ℕ) (i : ℕ) → i + 1 < length l → (eqb (get_or l i 0) kind && eqb (get_or l (i + 1) 0) id) ≡ false
-    → named_again kind id (drop i l) ≡ named_again kind id (drop (i + 2) l)
-again_miss kind id l i h e = rw (two l i h, e)
-
--- what is left of an odd list is one number, else nothing
-data Left (l : List ℕ) (i : ℕ) : Type 0 where
-  none : drop i l ≡ [] → i ≡ length l → Left l i
-  one : (x : ℕ) → drop i l ≡ x ∷ [] → i + 1 ≡ length l → Left l i
-
-left : (l : List ℕ) (i : ℕ) → i ≤ length l → length l ≤ i + 1 → Left l i
-left l i h g = go (eqb i (length l)) refl
-  where
-    go : (b : Bool) → eqb i (length l) ≡ b → Left l i
-    go true e = let q : i ≡ length l = eqb-true i (length l) e in none (drop_of_length-le l {i = i} (omega arith)) q
-    go false e =
-        let n = eqb-false i (length l) e in
-        let q : i < length l = omega (arith, n) in
-        let a : suc i ≡ i + 1 = omega arith in
-        one (get_or l i 0) (drop-cons l i 0 q ∙ ap (λ (r : List ℕ). get_or l i 0 ∷ r) (drop_of_length-le l {i = suc i} (omega arith))) (omega arith)
-
-pub again_end : (kind id : ℕ) (l : List ℕ) (i : ℕ) → i ≤ length l → length l ≤ i + 1 → named_again kind id (drop i l) ≡ false
-again_end kind id l i h g = go (left l i h g)
-  where
-    go : Left l i → named_again kind id (drop i l) ≡ false
-    go (none e q) = rw e
-    go (one x e q) = rw e
-
-pub pairs-bad : (l : List ℕ) (i : ℕ) → i + 1 < length l → pair_ok (get_or l i 0) (get_or l (i + 1) 0) ≡ false → pairs_ok (drop i l) ≡ false
-pairs-bad l i h e = rw (two l i h, e)
-
-pub pairs-again : (l : List ℕ) (i : ℕ) → i + 1 < length l → pair_ok (get_or l i 0) (get_or l (i + 1) 0) ≡ true
-    → named_again (get_or l i 0) (get_or l (i + 1) 0) (drop (i + 2) l) ≡ true → pairs_ok (drop i l) ≡ false
-pairs-again l i h e g = rw (two l i h, e, g)
-
-pub pairs_next : (l : List ℕ) (i : ℕ) → i + 1 < length l → pair_ok (get_or l i 0) (get_or l (i + 1) 0) ≡ true
-    → named_again (get_or l i 0) (get_or l (i + 1) 0) (drop (i + 2) l) ≡ false → pairs_ok (drop i l) ≡ pairs_ok (drop (i + 2) l)
-pairs_next l i h e g = rw (two l i h, e, g)
-
-pub pairs_end : (l : List ℕ) (i : ℕ) → i ≤ length l → length l ≤ i + 1 → eqb i (length l) ≡ pairs_ok (drop i l)
-pairs_end l i h g = go (left l i h g)
-  where
-    go : Left l i → eqb i (length l) ≡ pairs_ok (drop i l)
-    go (none e q) = rw e (eq-eqb i (length l) q)
-    go (one x e q) = rw e (ne_eqb i (length l) (λ z. let y : ⊥ = omega arith in y))
-
-pub named_next : (l : List ℕ) (i k : ℕ) (sources : List Source) (x : Source) → i + 1 < length l → x ≡ source_numbered (get_or l i 0) (get_or l (i + 1) 0)
-    → named k (drop i l) sources ≡ named (k + 1) (drop (i + 2) l) (set sources k x)
-named_next l i k sources x h e = rw (two l i h, e, add-one k)
-
-pub named_end : (l : List ℕ) (i k : ℕ) (sources : List Source) → i ≤ length l → length l ≤ i + 1 → named k (drop i l) sources ≡ sources
-named_end l i k sources h g = go (left l i h g)
-  where
-    go : Left l i → named k (drop i l) sources ≡ sources
-    go (none e q) = rw e
-    go (one x e q) = rw e
-
-pub sources_long : (l : List ℕ) → 16 < length l → false ≡ sources_ok l
-unfolding sources_ok
-sources_long l h = rw (lt-leb (length l) 16 h)
-
-pub sources_few : (l : List ℕ) → length l ≤ 16 → length l < 2 → false ≡ sources_ok l
-unfolding sources_ok
-sources_few l h g = rw (le-leb (length l) 16 h, lt-leb 2 (length l) g)
-
-pub sources_by : (l : List ℕ) (b : Bool) → length l ≤ 16 → 2 ≤ length l → b ≡ pairs_ok l → b ≡ sources_ok l
-unfolding sources_ok
-sources_by l b h g e = rw (le-leb (length l) 16 h, le-leb 2 (length l) g, ← e)
-
--- a list whose first k are mapped
-pub map_step : (f : Source → Source) (l m : List Source) (k : ℕ) (d x : Source) → length l ≡ 8 → k < 8 → x ≡ f (get_or l k d) → m ≡ map f (take k l) ++ drop k l
-    → set m k x ≡ map f (take (k + 1) l) ++ drop (k + 1) l
-map_step f l m k d x g j ex em =
-    let h : k < length l = omega arith in
-    let p : length (map f (take k l)) ≡ k = length-map (take k l) f ∙ length-take-le k l (omega arith) in
-    rw (em, ex, add-one k, take-suc l k d h, map-append f (take k l) (get_or l k d ∷ []), drop-cons l k d h)
-    (set_at (map f (take k l)) (get_or l k d) (drop (suc k) l) (f (get_or l k d)) k p ∙ rw append_assoc)
-
-pub map_end : (f : Source → Source) (l m : List Source) (k : ℕ) → length l ≡ 8 → 8 ≤ k → m ≡ map f (take k l) ++ drop k l → m ≡ map f l
-map_end f l m k g j em =
-    let h : length l ≤ k = omega arith in
-    em ∙ rw (drop_of_length-le l h, take_all k l h) (append-nil (map f l))
+pub left_length : (l : List ℕ) → 2 ≤ length l → length (take (length l - 2) (drop 2 l)) ≡ length l - 2
+left_length [] h = let z : ⊥ = omega arith in absurd z
+left_length (a ∷ []) h = let z : ⊥ = omega arith in absurd z
+left_length (a ∷ (b ∷ l)) h =
+    let n : length (a ∷ (b ∷ l)) - 2 ≡ length l = omega arith in
+    rw (n, take_all (length l) l (omega arith))
 
 -- what the soundness rule and an accepted setup give
 pub few : (e : Engine) → sound_of e ≡ true → e.count ≤ 8

@@ -9,18 +9,16 @@ use codec::ident::Kind;
 use codec::time::Millis;
 use framer::cause::{Cause, check};
 
-// Network type 1, 2 or 3; the caller has refused every other.
+// Network type 1, 2 or 3; the caller has refused every other, so that the refusal of `Kind::try_from` would go nowhere.
 #[tactic(auto, unfolding(crate::specs::Setup::kind_numbered))]
 fn kind_numbered(n: u32) -> Kind
     ensures { result ≡ kind_numbered n }
 {
-    if n == 1 {
-        return Kind::Can;
+    match n {
+        1 => Kind::Can,
+        2 => Kind::Lin,
+        _ => Kind::FlexRay,
     }
-    if n == 2 {
-        return Kind::Lin;
-    }
-    Kind::FlexRay
 }
 
 #[tactic(auto, unfolding(crate::specs::Setup::source_numbered))]
@@ -37,56 +35,43 @@ fn pair_ok(kind: u32, id: u32) -> bool
     (1 <= kind) & (kind <= 3) & (id <= 255)
 }
 
-// The kind and id stand among the pairs from index i on.
-fn named_again(pairs: &[u32], i: usize, kind: u32, id: u32) -> bool
-    requires pairs_len_bound { length pairs.now ≤ 16 }
-    requires i_in_bounds { i ≤ length pairs.now }
-    ensures { result ≡ named_again kind id (drop i pairs.now) }
+// The kind and id stand among the pairs.
+fn named_again(pairs: &[u32], kind: u32, id: u32) -> bool
+    ensures { result ≡ named_again kind id pairs.now }
 {
-    let n = pairs.len();
-    let mut j = i;
-    while j + 1 < n {
-        if (pairs[j] == kind) & (pairs[j + 1] == id) {
+    let mut rest = pairs;
+    while let [k, i, after @ ..] = rest {
+        if (*k == kind) & (*i == id) {
             return true;
         }
-        j += 2;
+        rest = after;
     }
     false
 }
 
 // Every pair is in range and names what no later pair names.
 fn pairs_ok(pairs: &[u32]) -> bool
-    requires { length pairs.now ≤ 16 }
     ensures { result ≡ pairs_ok pairs.now }
 {
-    let n = pairs.len();
-    let mut i: usize = 0;
-    while i + 1 < n {
-        let kind = pairs[i];
-        let id = pairs[i + 1];
-        if !pair_ok(kind, id) {
+    let mut rest = pairs;
+    while let [kind, id, after @ ..] = rest {
+        if !pair_ok(*kind, *id) {
             return false;
         }
-        if named_again(pairs, i + 2, kind, id) {
+        if named_again(after, *kind, *id) {
             return false;
         }
-        i += 2;
+        rest = after;
     }
-    i == n
+    rest.is_empty()
 }
 
 // One to eight pairs.
+#[tactic(auto, unfolding(crate::specs::Setup::sources_ok))]
 fn sources_ok(pairs: &[u32]) -> bool
     ensures { result ≡ sources_ok pairs.now }
 {
-    let n = pairs.len();
-    if 16 < n {
-        return false;
-    }
-    if n < 2 {
-        return false;
-    }
-    pairs_ok(pairs)
+    pairs.len() <= 16 && 2 <= pairs.len() && pairs_ok(pairs)
 }
 
 // The sources that the pairs name, from place 0 on.
@@ -94,14 +79,13 @@ fn named(pairs: &[u32], none: [Source; 8]) -> [Source; 8]
     requires { length pairs.now ≤ 16 }
     ensures { result ≡ named 0 pairs.now none }
 {
-    let n = pairs.len();
     let mut sources = none;
     let mut k: usize = 0;
-    let mut i: usize = 0;
-    while i + 1 < n {
-        sources[k] = source_numbered(pairs[i], pairs[i + 1]);
+    let mut rest = pairs;
+    while let [kind, id, after @ ..] = rest {
+        sources[k] = source_numbered(*kind, *id);
         k += 1;
-        i += 2;
+        rest = after;
     }
     sources
 }
@@ -110,14 +94,7 @@ fn named(pairs: &[u32], none: [Source; 8]) -> [Source; 8]
 fn reset_all(before: [Source; 8]) -> [Source; 8]
     ensures { result ≡ map reset_source before }
 {
-    let mut after = before;
-    let mut k: usize = 0;
-    while k < 8 {
-        let s = before[k];
-        after[k] = s.reset();
-        k += 1;
-    }
-    after
+    before.map(|s| s.reset())
 }
 
 impl Engine {

@@ -2,7 +2,8 @@
 ghost use Rattle.std.specs.Prelude.{◌≡◌, ◌<◌};
 ghost use Rattle.bus.specs.Update.{can_update, lin_update, flexray_update, update_cause};
 ghost use Rattle.bus.specs.Filter.{can_mask, can_range, lin_mask, lin_range, slots_of};
-ghost use Rattle.bus.specs.Source.{add_cause, remove_cause};
+ghost use Rattle.framer.specs.Cause.{gives};
+ghost use Rattle.bus.specs.Source.{free_at, add_cause, remove_cause};
 ghost use Rattle.mirror.specs.Engine.{cause_of, source_cause};
 ghost use Rattle.mirror.specs.Source.{stored_of, start_of, stop_of, update_of, add_of, remove_of};
 
@@ -97,13 +98,13 @@ impl Engine {
         self.update(bus::update::flexray(source, online, bits))
     }
 
-    // 2, 4, 9, 10
+    // 2, 4, 9, 10; else the filter's number.
     #[tactic(auto, unfolding(crate::specs::Engine::cause_of))]
-    fn adds(self, s: Source, a: Addition) -> Result<(), Cause>
-        ensures { result ≡ cause_of self (add_cause self.count s a) }
+    fn adds(self, s: Source, a: Addition) -> Result<usize, Cause>
+        ensures { result ≡ gives (cause_of self (add_cause self.count s a)) (free_at s.places) }
     {
         self.sound()?;
-        s.add_cause(self.count, a)
+        s.place_for(self.count, a)
     }
 
     #[tactic(auto, unfolding(crate::specs::Source::add_of))]
@@ -112,14 +113,14 @@ impl Engine {
     {
         let k = crate::engine::index(a.source);
         let s = self.sources[k];
-        if let Err(cause) = self.adds(s, a) {
-            return self.refused(cause);
+        let answer = self.adds(s, a);
+        if answer.is_ok() {
+            let filter = a.filter;
+            self.sources[k] = s.add_filter(filter);
         }
-        let filter = a.filter;
-        self.sources[k] = s.add_filter(filter);
         Outcome {
             engine: self,
-            answer: Ok(s.free_place()),
+            answer,
         }
     }
 

@@ -26,12 +26,9 @@ impl Engine {
         requires { self.count ≤ 8 }
         ensures { result ≡ states_of self.count 0 self t }
     {
-        let n = self.count;
         let mut e = self;
-        let mut k: usize = 0;
-        while k < n {
+        for k in 0..self.count {
             e = e.tick_source(k, t);
-            k += 1;
         }
         e
     }

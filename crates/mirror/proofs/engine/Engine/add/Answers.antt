@@ -1,10 +1,11 @@
-use Rattle.std.proofs.Common.{refl, ◌∙◌}
-use Rattle.mirror.proofs.MirrorLaws.{add-refused, add_done}
+use Rattle.std.proofs.Common.{refl, sym, ◌∙◌}
+use Rattle.mirror.proofs.MirrorLaws.{add_by}
 use Rattle.mirror.proofs.engine.Engine.add.Goals as goal
 
-pub returns-in-Err : goal.returns-in-Err
-returns-in-Err c = c.refused.ensures ∙ add-refused _ _ _ _ _ _ c.index-k.ensures.is refl c.adds.ensures c.in-Err.is
+pub returns-then-is_ok : goal.returns-then-is_ok
+returns-then-is_ok c =
+    (add_by _ _ _ _ _ c.index-k.ensures.is refl c.adds-answer.ensures _ refl _ c.add_filter.ensures).0 (sym c.is_ok.ensures.value ∙ c.if-is_ok.true)
 
-pub returns : goal.returns
-returns c =
-    add_done _ _ _ _ _ _ _ _ c.index-k.ensures.is refl c.adds.ensures c.in_default.is c.add_filter.ensures c.free_place.ensures.is
+pub returns-else-is_ok : goal.returns-else-is_ok
+returns-else-is_ok c =
+    (add_by _ _ _ _ _ c.index-k.ensures.is refl c.adds-answer.ensures _ refl _ refl).1 (sym c.is_ok.ensures.value ∙ c.if-is_ok.false)
