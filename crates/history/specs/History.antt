@@ -5,7 +5,6 @@ use Rattle.codec.specs.Choice.{pick}
 use Rattle.codec.specs.Number.{Bytes}
 use Rattle.codec.specs.Time.{ns}
 use Rattle.codec.specs.declared.ident.Ident.{Ident}
-use Rattle.reader.specs.declared.frame.Judged.TheVariants as Judged
 use Rattle.reader.specs.Frame.{judge_of, items_of}
 use Rattle.reader.specs.Listing.{Yield, stepping}
 use Rattle.framer.specs.declared.queue.Queue.{Queue}
@@ -99,7 +98,7 @@ pub record Shows (y : Yield) (x : Line) : Type 0 where
 
 -- the reader accepts the bytes; their header and items are the frame's, and stepping yields its lines one by one (a and d)
 pub record Reads (s : List ℕ) (f : Frame) : Type 0 where
-  pub header : judge_of s ≡ Judged.Frame (record { sequence = f.sequence; time = f.time; length = total f.lines })
+  pub header : judge_of s ≡ Ok (record { sequence = f.sequence; time = f.time; length = total f.lines })
   pub items : items_of s 14 ≡ map entry_in f.lines
   pub lines : Both Shows (stepping (length s) s 14) f.lines
 

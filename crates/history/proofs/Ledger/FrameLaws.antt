@@ -12,7 +12,7 @@ use Rattle.codec.specs.Time.{ns, time_ok}
 use Rattle.codec.specs.Item.{encode}
 use Rattle.codec.specs.Layout.{StateFits, Valid, AllValid, Head, body}
 use Rattle.codec.specs.declared.time.Time.{Time}
-use Rattle.std.specs.Prelude.{Option, Some, None}
+use Rattle.std.specs.Prelude.{Some, None}
 use Rattle.codec.proofs.BoolLaws.{and_l, and_r}
 use Rattle.codec.proofs.ItemLaws.{encode-length}
 use Rattle.history.specs.Account.{Event}

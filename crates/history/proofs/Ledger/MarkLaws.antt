@@ -7,7 +7,7 @@ use mathlib.Core.List.{List, [], ◌∷◌, ◌++◌, map-append, append_assoc, 
 use native.Mathlib.Omega.{arith}
 use borrow.Author.Tests.{le-leb, lt-leb}
 use Rattle.codec.specs.Choice.{pick, bit}
-use Rattle.std.specs.Prelude.{Option, Some, None}
+use Rattle.std.specs.Prelude.{Some, None}
 use Rattle.codec.proofs.BoolLaws.{or_false, or_true}
 use Rattle.history.specs.Account.{Event}
 use Rattle.history.specs.Ledger.{Limits, Line, Closed, Note, Ledger, empty_ledger, Op, state_in, item_in, failures_in, has_room, line_for, close, enter, run_l, lines_in, closed_by, filling_by, made_in, is_discard, is_failure, tally}

@@ -13,7 +13,7 @@ use Rattle.codec.specs.Time.{ns}
 use Rattle.codec.specs.Ident.{ident_bytes}
 use Rattle.codec.specs.Item.{state_bytes, load_length}
 use Rattle.codec.specs.declared.time.Time.{Time}
-use Rattle.std.specs.Prelude.{Option, Some, None}
+use Rattle.std.specs.Prelude.{Some, None}
 use Rattle.history.specs.Account.{Event}
 use Rattle.history.specs.Ledger.{Limits, Line, Frame, Ledger, Op, state_in, item_in, size_in, total, is_empty, waiting_in, offset_in, line_for, closes_before, overdue, close, begin, enter, mirrored, passed, taken, is_out, failed, step_l, run_l}
 use Rattle.history.specs.Ledger as Rules

@@ -15,7 +15,7 @@ use Rattle.codec.specs.Item.{shown_ok, set_of, set_for, load_ok, item_ok}
 use Rattle.codec.specs.Layout.{IdentFits}
 use Rattle.codec.specs.declared.time.Time.{Time}
 use Rattle.codec.specs.declared.ident.Ident.{Ident}
-use Rattle.std.specs.Prelude.{Option, Some, None}
+use Rattle.std.specs.Prelude.{Some, None}
 use Rattle.codec.proofs.BoolLaws.{and_l, and_r, or_true}
 use Rattle.codec.proofs.PidLaws.{pid_small}
 use Rattle.codec.proofs.Opened.{never}
