@@ -109,7 +109,6 @@ noted s r = record {
   state = bit_or (bit_and s.state r.kept) r.raised;
   known = s.known || ltb r.kept 255;
   shown = s.shown;
-  told = s.told;
   heard = s.heard;
   places = s.places;
 }
@@ -136,8 +135,7 @@ settled s r = record {
   started = s.started;
   state = bit_and (noted s r).state r.kept;
   known = (noted s r).known;
-  shown = pick (offer_of s r).due (noted s r).state s.shown;
-  told = s.told || (offer_of s r).due;
+  shown = pick (offer_of s r).due (Some (noted s r).state) s.shown;
   heard = true;
   places = s.places;
 }

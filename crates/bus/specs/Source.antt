@@ -23,8 +23,7 @@ fresh_source kind network = record {
   started = false;
   state = 0;
   known = false;
-  shown = 0;
-  told = false;
+  shown = None;
   heard = false;
   places = replicate 8 free_place;
 }
@@ -41,8 +40,7 @@ started_source s = record {
   started = true;
   state = 0;
   known = false;
-  shown = 0;
-  told = false;
+  shown = None;
   heard = s.heard;
   places = s.places;
 }
@@ -56,7 +54,6 @@ stopped_source s = record {
   state = s.state;
   known = s.known;
   shown = s.shown;
-  told = s.told;
   heard = s.heard;
   places = s.places;
 }
@@ -93,7 +90,6 @@ with_places s ps = record {
   state = s.state;
   known = s.known;
   shown = s.shown;
-  told = s.told;
   heard = s.heard;
   places = ps;
 }
@@ -114,8 +110,12 @@ unfoldable pub removed_filter : Source → ℕ → Source
 removed_filter s number = pick (ltb number 8) (with_places s (set s.places number free_place)) s
 
 -- the state is known, and was never shown or differs from the last shown (rules 4 and 6)
+abbrev pub is_byte : Option ℕ → ℕ → Bool
+is_byte (Some x) byte = eqb x byte
+is_byte None byte = false
+
 unfoldable pub due : Source → Bool
-due s = s.known && not (s.told && eqb s.shown s.state)
+due s = s.known && not (is_byte s.shown s.state)
 
 -- a tick shows it for a started source from which no report was accepted since the last tick (rule 6)
 unfoldable pub tick_due : Source → Bool
@@ -133,8 +133,7 @@ calmed s = record {
   started = s.started;
   state = s.state;
   known = s.known;
-  shown = pick (tick_due s) s.state s.shown;
-  told = s.told || tick_due s;
+  shown = pick (tick_due s) (Some s.state) s.shown;
   heard = false;
   places = s.places;
 }

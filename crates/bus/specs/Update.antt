@@ -56,7 +56,6 @@ updated s u = record {
   state = u.state;
   known = true;
   shown = s.shown;
-  told = s.told;
   heard = s.heard;
   places = s.places;
 }

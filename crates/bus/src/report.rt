@@ -192,8 +192,9 @@ pub fn settle(s: Source, r: Report) -> Source
     let o = offer(s, r);
     let mut n = note(s, r);
     n.state = o.state & r.kept;
-    n.shown = if o.due { o.state } else { s.shown };
-    n.told = s.told | o.due;
+    if o.due {
+        n.shown = Some(o.state);
+    }
     n.heard = true;
     n
 }

@@ -16,9 +16,8 @@ pub struct Source {
     // the current state byte without bit 7, and whether it is known
     pub state: u8,
     pub known: bool,
-    // the state byte shown last, and whether one was
-    pub shown: u8,
-    pub told: bool,
+    // the state byte shown last
+    pub shown: Option<u8>,
     // a report was accepted since the last tick
     pub heard: bool,
     pub places: [Place; 8],
@@ -37,8 +36,7 @@ pub fn fresh(kind: Kind, network: u8) -> Source
         started: false,
         state: 0,
         known: false,
-        shown: 0,
-        told: false,
+        shown: None,
         heard: false,
         places: [place; 8],
     }
@@ -60,8 +58,7 @@ impl Source {
         self.started = true;
         self.state = 0;
         self.known = false;
-        self.shown = 0;
-        self.told = false;
+        self.shown = None;
         self
     }
 
@@ -150,7 +147,7 @@ impl Source {
     pub fn due(self) -> bool
         ensures { result ≡ due self }
     {
-        self.known & !(self.told & (self.shown == self.state))
+        self.known & (self.shown != Some(self.state))
     }
 
     #[tactic(auto, unfolding(crate::specs::Source::tick_due))]
@@ -179,9 +176,9 @@ impl Source {
     pub fn calm(mut self) -> Source
         ensures { result ≡ calmed self }
     {
-        let shows = self.tick_due();
-        self.shown = if shows { self.state } else { self.shown };
-        self.told = self.told | shows;
+        if self.tick_due() {
+            self.shown = Some(self.state);
+        }
         self.heard = false;
         self
     }

@@ -1,5 +1,5 @@
 -- The engine's own record, and what every call has in common (docs/RULES.md, "The engine", "Answers").
-use Rattle.std.specs.Prelude.{ℕ, Bool, false, ◌&&◌, List, [], get_or, set, replicate, ltb, leb, Result, Ok, Err}
+use Rattle.std.specs.Prelude.{ℕ, Bool, false, ◌&&◌, List, [], get_or, set, replicate, ltb, leb, None, Result, Ok, Err}
 use Rattle.codec.specs.Choice.{pick}
 use Rattle.codec.specs.declared.ident.Kind.TheVariants as Kind
 use Rattle.framer.specs.Cause.{guard}
@@ -48,8 +48,7 @@ no_source = record {
   started = false;
   state = 0;
   known = false;
-  shown = 0;
-  told = false;
+  shown = None;
   heard = false;
   places = [];
 }
