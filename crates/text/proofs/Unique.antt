@@ -11,6 +11,10 @@ use Rattle.text.proofs.line.word.Reads as word
 use Rattle.text.proofs.part.front.Reads as front
 use Rattle.text.proofs.put.hex.Reads as hex
 use Rattle.text.proofs.put.decimal.Reads as decimal
+use Rattle.text.proofs.draft.Draft.new.Reads as new
+use Rattle.text.proofs.draft.Draft.push.Reads as push
+use Rattle.text.proofs.draft.Draft.number.Reads as draft-number
+use Rattle.text.proofs.draft.Draft.as_slice.Reads as as-slice
 
 pub value_unique : (κs : _) (a : _) (r r' : _) (x x' : _) → value.Post κs a r x → value.Post κs a r' x' → r ≡ r'
 value_unique κs a r r' x x' p q = p ∙ sym q
@@ -43,3 +47,15 @@ hex_unique κs a r r' x x' p q = (p.answer ∙ sym q.answer, p.list ∙ sym q.li
 pub decimal_unique : (κs : _) (a : _) (r r' : _) (x x' : _) → decimal.Post κs a r x → decimal.Post κs a r' x'
     → (r ≡ r') × (x.0.now ≡ x'.0.now)
 decimal_unique κs a r r' x x' p q = (p.answer ∙ sym q.answer, p.list ∙ sym q.list)
+
+pub new_unique : (κs : _) (a : _) (r r' : _) (x x' : _) → new.Post κs a r x → new.Post κs a r' x' → r ≡ r'
+new_unique κs a r r' x x' p q = p ∙ sym q
+
+pub push_unique : (κs : _) (a : _) (r r' : _) (x x' : _) → push.Post κs a r x → push.Post κs a r' x' → x.0.now ≡ x'.0.now
+push_unique κs a r r' x x' p q = p.is ∙ sym q.is
+
+pub draft_number_unique : (κs : _) (a : _) (r r' : _) (x x' : _) → draft-number.Post κs a r x → draft-number.Post κs a r' x' → x.0.now ≡ x'.0.now
+draft_number_unique κs a r r' x x' p q = p.is ∙ sym q.is
+
+pub as_slice_unique : (κs : _) (a : _) (r r' : _) (x x' : _) → as-slice.Post κs a r x → as-slice.Post κs a r' x' → r.now ≡ r'.now
+as_slice_unique κs a r r' x x' p q = p ∙ sym q
