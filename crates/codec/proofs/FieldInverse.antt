@@ -11,7 +11,7 @@ use borrow.Author.Tests.{ltb-false, leb-true, le-leb, eqb-true}
 use Rattle.std.specs.Prelude.{Option, Some, None, Result, Ok}
 use Rattle.std.proofs.lemmas.Option.{some_pair_parts}
 use Rattle.codec.specs.Choice.{pick, bit}
-use Rattle.codec.specs.Number.{be, val, word, fits, Bytes, get_of, part_of}
+use Rattle.codec.specs.Number.{be, word, fits, Bytes, get_of, part_of}
 use Rattle.codec.specs.Ident.{network_type, kind_in, kind_of, ident_bytes, ident_bit, ident_ok, can_zero, can_range, pid_ok, channels_ok, flexray_range, flexray_bytes, error_bytes}
 use Rattle.codec.specs.Item.{state_bytes, state_bit, set_ok, set_for, alone_in, state_ok, load_ok, load_bytes}
 use Rattle.codec.specs.Field.{read_flags, read_state, can_ident, lin_ident, frame_ident, error_ident, flexray_ident, read_can, read_lin, read_flexray, read_ident, read_load, bytes_at}

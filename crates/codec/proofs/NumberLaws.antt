@@ -3,11 +3,11 @@ use Prim.Native.Nat.{ℕ, zero, suc, ◌+◌, ◌-◌, ◌*◌, ◌/◌, ◌%◌
 use mathlib.Core.Path.{◌≡◌, refl, sym, ◌∙◌, ap}
 use mathlib.Core.Bool.{Bool, true, false}
 use mathlib.Core.List.{List, [], ◌∷◌, ◌++◌, append_assoc}
-use native.Mathlib.Nat.{add-suc, suc-add, add-zero, add_assoc, pow-suc, pow-succ', pow-le-pow_right, div-div-eq-div-mul}
+use native.Mathlib.Nat.{add-suc, suc-add, add_assoc, pow-suc, pow-succ', pow-le-pow_right, div-div-eq-div-mul}
 use native.Mathlib.Numerals.{add-one}
 use native.Mathlib.Omega.{arith}
 use borrow.Rule.Slice.PartMut.{put_mid}
-use lib.ListN.{length, take, drop, set, get_or, length-append, length-set, length-drop, drop_of_length-le}
+use lib.ListN.{length, take, drop, set, get_or, length-append, length-set, length-drop}
 use lib.Dec.{leb}
 use lib.Seq.{sets, sets-eq, drop-cons, paste-zero, take_at, drop-append-add, drop-drop, length-take-le, take-suc, take-length, set_at}
 use Rattle.std.specs.Prelude.{Option, Some, None}

@@ -10,18 +10,17 @@ use Rattle.codec.specs.declared.time.Time.{Time}
 use Rattle.codec.specs.declared.time.Ticks.{Ticks}
 use Rattle.codec.specs.declared.time.Nanos.{Nanos}
 use Rattle.codec.specs.declared.time.Elapsed.{Elapsed}
-use Rattle.codec.specs.declared.time.Span.{Span}
 use Rattle.codec.specs.Time.{ns, millis_of, ticks_of, behind_by, elapsed, span_of, overdue_of, recovered_of}
 
-pub back : (f t n : ℕ) → t < f → n ≡ behind_by f t → Span.Backwards (record { 0 = n }) ≡ span_of f t
+pub back : (f t n : ℕ) → t < f → n ≡ behind_by f t → Elapsed.Backwards (record { 0 = n }) ≡ span_of f t
 unfolding span_of
 back f t n h e = rw e (simp (lt-ltb t f h))
 
-pub far : (f t : ℕ) → f + 100000000000 ≤ t → Span.Far ≡ span_of f t
+pub far : (f t : ℕ) → f + 100000000000 ≤ t → Elapsed.TooFar ≡ span_of f t
 unfolding span_of
 far f t h = simp (le-ltb t f (omega arith), le-ltb (t - f) 100000000000 (omega arith))
 
-pub near : (f t : ℕ) → f ≤ t → t < f + 100000000000 → Span.Nanos (record { 0 = t - f }) ≡ span_of f t
+pub near : (f t : ℕ) → f ≤ t → t < f + 100000000000 → Elapsed.Within (record { 0 = t - f }) ≡ span_of f t
 unfolding span_of
 near f t h k = simp (le-ltb t f h, lt-ltb (t - f) 100000000000 (omega arith))
 
@@ -41,18 +40,18 @@ shift x y f t h = go (ltb y x) refl
         simp (e, le-ltb t f (omega arith), d)
 
 -- what a span says of the measure and of the deadline
-abbrev pub measured : Span → Elapsed
-measured (Span.Nanos n) = ticks_of n.0
-measured Span.Far = Elapsed.TooFar
-measured (Span.Backwards n) = Elapsed.Backwards n
+abbrev pub measured : Elapsed Nanos → Elapsed Ticks
+measured (Elapsed.Within n) = ticks_of n.0
+measured Elapsed.TooFar = Elapsed.TooFar
+measured (Elapsed.Backwards n) = Elapsed.Backwards n
 
-abbrev pub due : ℕ → Span → Bool
-due d (Span.Nanos n) = leb 1 d && leb d (millis_of n.0)
-due d Span.Far = leb 1 d
-due d (Span.Backwards n) = false
+abbrev pub due : ℕ → Elapsed Nanos → Bool
+due d (Elapsed.Within n) = leb 1 d && leb d (millis_of n.0)
+due d Elapsed.TooFar = leb 1 d
+due d (Elapsed.Backwards n) = false
 
 module _ (f t : ℕ) where
-  pub by_span : (p : Span) → span_of f t ≡ p → measured p ≡ elapsed f t
+  pub by_span : (p : Elapsed Nanos) → span_of f t ≡ p → measured p ≡ elapsed f t
   unfolding span_of elapsed ticks_of
   by_span p q = go (ltb t f) refl (ltb (t - f) 100000000000) refl
     where
@@ -63,7 +62,7 @@ module _ (f t : ℕ) where
           let k : 100000000000 ≤ t - f = ltb-false (t - f) 100000000000 g in
           rw (← q) (simp (e, g, lt-leb ((t - f) / 10000) 65535 (omega arith)))
 
-  pub by_deadline : (d : ℕ) → d ≤ 65535 → (p : Span) → span_of f t ≡ p → due d p ≡ overdue_of f t d
+  pub by_deadline : (d : ℕ) → d ≤ 65535 → (p : Elapsed Nanos) → span_of f t ≡ p → due d p ≡ overdue_of f t d
   unfolding span_of overdue_of
   by_deadline d m p q = go (leb 1 d) refl (ltb t f) refl (ltb (t - f) 100000000000) refl
     where
@@ -99,7 +98,7 @@ module _ (f t : ℕ) where
           rw (← q) (simp (o, e, g, le-leb (f + d * 1000000) t (omega arith)))
 
 -- ticks say where the later time lies
-pub within : (f t k : ℕ) → elapsed f t ≡ Elapsed.Ticks (record { 0 = k }) → (f + k * 10000 ≤ t) × (t < f + k * 10000 + 10000)
+pub within : (f t k : ℕ) → elapsed f t ≡ Elapsed.Within (record { 0 = k }) → (f + k * 10000 ≤ t) × (t < f + k * 10000 + 10000)
 unfolding elapsed ticks_of
 within f t k h = go (ltb t f) refl (leb ((t - f) / 10000) 65535) refl
   where
@@ -132,7 +131,7 @@ unfolding recovered_of
 recovered_exact h k s n m = omega arith
 
 -- so it is never after the measured time and less than 10,000 ns before it, across a second's edge too
-pub recovered_within : (h t : Time) (k : ℕ) → h.sec ≤ 281474976710655 → h.nano ≤ 999999999 → k ≤ 65535 → elapsed (ns h) (ns t) ≡ Elapsed.Ticks (record { 0 = k })
+pub recovered_within : (h t : Time) (k : ℕ) → h.sec ≤ 281474976710655 → h.nano ≤ 999999999 → k ≤ 65535 → elapsed (ns h) (ns t) ≡ Elapsed.Within (record { 0 = k })
     → (ns (recovered_of h k) ≤ ns t) × (ns t < ns (recovered_of h k) + 10000)
 recovered_within h t k s n m e = rw (recovered_exact h k s n m) (within (ns h) (ns t) k e)
 

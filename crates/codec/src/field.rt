@@ -44,7 +44,12 @@ pub fn read_flags(s: &[u8], at: usize) -> Result<(Kind, u8, usize), Refusal>
 }
 
 #[tactic(auto, unfolding(crate::specs::Field::read_state))]
-pub fn read_state(s: &[u8], at: usize, kind: Kind, present: bool) -> Result<(Option<u8>, usize), Refusal>
+pub fn read_state(
+    s: &[u8],
+    at: usize,
+    kind: Kind,
+    present: bool,
+) -> Result<(Option<u8>, usize), Refusal>
     ensures { result ≡ read_state s.now at kind present }
 {
     if !present {
@@ -89,7 +94,7 @@ fn read_can(s: &[u8], at: usize) -> Result<(Ident, usize), Refusal>
 fn lin_ident(pid: u8, next: usize) -> Result<(Ident, usize), Refusal>
     ensures { result ≡ lin_ident pid next }
 {
-    if crate::ident::pid_ok(pid as u32) {
+    if crate::ident::pid_ok(u32::from(pid)) {
         Ok((Ident::Lin(pid), next))
     } else {
         Err(Refusal::Range)
@@ -110,7 +115,7 @@ fn read_lin(s: &[u8], at: usize) -> Result<(Ident, usize), Refusal>
 fn frame_ident(channels: u8, slot: u16, cycle: u8, next: usize) -> Result<(Ident, usize), Refusal>
     ensures { result ≡ frame_ident channels slot cycle next }
 {
-    if crate::ident::flexray_range(channels, slot, cycle) {
+    if crate::ident::flexray_range(u32::from(channels), u32::from(slot), u32::from(cycle)) {
         Ok((
             Ident::FlexRay {
                 channels,
@@ -128,7 +133,7 @@ fn frame_ident(channels: u8, slot: u16, cycle: u8, next: usize) -> Result<(Ident
 fn error_ident(channels: u8, slot: u16, cycle: u8, next: usize) -> Result<(Ident, usize), Refusal>
     ensures { result ≡ error_ident channels slot cycle next }
 {
-    if crate::ident::channels_ok(channels as u32) & (slot == 0) & (cycle == 0) {
+    if crate::ident::channels_ok(u32::from(channels)) & (slot == 0) & (cycle == 0) {
         Ok((Ident::FlexRayError(channels), next))
     } else {
         Err(Refusal::Range)
@@ -138,12 +143,18 @@ fn error_ident(channels: u8, slot: u16, cycle: u8, next: usize) -> Result<(Ident
 // Bits 5 and 4 of the first byte are zero; bit 3 is one, or zero for an error without a frame, which is told by state
 // and id alone.
 #[tactic(auto, unfolding(crate::specs::Field::flexray_ident))]
-fn flexray_ident(alone: bool, front: u8, low: u8, cycle: u8, next: usize) -> Result<(Ident, usize), Refusal>
+fn flexray_ident(
+    alone: bool,
+    front: u8,
+    low: u8,
+    cycle: u8,
+    next: usize,
+) -> Result<(Ident, usize), Refusal>
     ensures { result ≡ flexray_ident alone front low cycle next }
 {
     let marks = front >> 3 & 7;
     let channels = front >> 6;
-    let slot = ((front & 7) as u16) << 8 | low as u16;
+    let slot = u16::from(front & 7) << 8 | u16::from(low);
     if marks == 1 {
         return frame_ident(channels, slot, cycle, next);
     }
@@ -165,7 +176,13 @@ fn read_flexray(s: &[u8], at: usize, alone: bool) -> Result<(Ident, usize), Refu
 
 // Alone: the item has state and id, and nothing else.
 #[tactic(auto, unfolding(crate::specs::Field::read_ident))]
-pub fn read_ident(s: &[u8], at: usize, kind: Kind, present: bool, alone: bool) -> Result<(Ident, usize), Refusal>
+pub fn read_ident(
+    s: &[u8],
+    at: usize,
+    kind: Kind,
+    present: bool,
+    alone: bool,
+) -> Result<(Ident, usize), Refusal>
     ensures { result ≡ read_ident s.now at kind present alone }
 {
     if !present {

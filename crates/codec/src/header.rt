@@ -29,12 +29,7 @@ pub fn write_header(out: &mut [u8], at: usize, h: Header) -> Option<usize>
     if !crate::time::in_range(h.time) {
         return None;
     }
-    if out.len() < 14 {
-        return None;
-    }
-    if out.len() - 14 < at {
-        return None;
-    }
+    crate::number::get_part(out, at, 14)?;
     let a = lay_front(out, at, h.sequence);
     let time = h.time;
     crate::number::put_be(out, a, time.sec, 6);

@@ -104,10 +104,10 @@ pub fn channels_ok(channels: u32) -> bool
 }
 
 #[tactic(auto, unfolding(crate::specs::Ident::flexray_range))]
-pub fn flexray_range(channels: u8, slot: u16, cycle: u8) -> bool
+pub fn flexray_range(channels: u32, slot: u32, cycle: u32) -> bool
     ensures { result ≡ flexray_range channels slot cycle }
 {
-    (1 <= channels) & (channels <= 3) & (1 <= slot) & (slot <= 2047) & (cycle <= 63)
+    channels_ok(channels) & (1 <= slot) & (slot <= 2047) & (cycle <= 63)
 }
 
 pub fn ident_ok(id: Ident) -> bool
@@ -115,13 +115,13 @@ pub fn ident_ok(id: Ident) -> bool
 {
     match id {
         Ident::Can(key) => can_zero(key) & can_range(key),
-        Ident::Lin(pid) => pid_ok(pid as u32),
+        Ident::Lin(pid) => pid_ok(u32::from(pid)),
         Ident::FlexRay {
             channels,
             slot,
             cycle,
-        } => flexray_range(channels, slot, cycle),
-        Ident::FlexRayError(channels) => channels_ok(channels as u32),
+        } => flexray_range(u32::from(channels), u32::from(slot), u32::from(cycle)),
+        Ident::FlexRayError(channels) => channels_ok(u32::from(channels)),
         Ident::Bare(_) => true,
     }
 }

@@ -43,7 +43,7 @@ fn ident_bit(ident: Ident) -> u8
 fn set_of(state: Option<u8>, ident: Ident, carries: bool) -> u8
     ensures { Below (set_of state ident carries) 8 result }
 {
-    state_bit(state) << 2 | ident_bit(ident) << 1 | carries as u8
+    state_bit(state) << 2 | ident_bit(ident) << 1 | u8::from(carries)
 }
 
 pub fn set_ok(set: u8) -> bool
@@ -138,7 +138,7 @@ fn ident_len(ident: Ident) -> usize
 fn load_len(carries: bool, n: u8) -> usize
     ensures { Below (load_length carries n) 257 result }
 {
-    if carries { 1 + n as usize } else { 0 }
+    if carries { 1 + usize::from(n) } else { 0 }
 }
 
 // How many bytes the item is with a payload of n bytes.
@@ -258,12 +258,7 @@ pub fn write_item(out: &mut [u8], at: usize, item: Item, payload: &[u8]) -> Opti
         return None;
     }
     let size = item_len(item, n as u8);
-    if out.len() < size {
-        return None;
-    }
-    if out.len() - size < at {
-        return None;
-    }
+    crate::number::get_part(out, at, size)?;
     let state = item.state;
     let ident = item.ident;
     let offset = item.offset.0;

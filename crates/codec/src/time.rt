@@ -18,19 +18,12 @@ pub struct Time {
     pub nano: u32,
 }
 
-// Backwards by so many nanoseconds, from 1 on.
+// The time from one reading to another, in numbers that do not reach as far as a clock does. Backwards by so many
+// nanoseconds, from 1 on.
 #[derive(Clone, Copy)]
-pub enum Elapsed {
-    Ticks(Ticks),
+pub enum Elapsed<T> {
+    Within(T),
     TooFar,
-    Backwards(Nanos),
-}
-
-// The time from one reading to another; past a hundred seconds no rule asks how long.
-#[derive(Clone, Copy)]
-enum Span {
-    Nanos(Nanos),
-    Far,
     Backwards(Nanos),
 }
 
@@ -41,12 +34,12 @@ pub fn in_range(t: Time) -> bool
 }
 
 #[tactic(auto, unfolding(crate::specs::Time::ticks_of))]
-pub fn ticks_of_nanos(n: Nanos) -> Elapsed
+pub fn ticks_of_nanos(n: Nanos) -> Elapsed<Ticks>
     ensures { result ≡ ticks_of n.0 }
 {
     let t = n.0 / 10000;
     if t <= 65535 {
-        Elapsed::Ticks(Ticks(t as u16))
+        Elapsed::Within(Ticks(t as u16))
     } else {
         Elapsed::TooFar
     }
@@ -87,26 +80,26 @@ fn cut(n: Nanos) -> Nanos
     }
 }
 
-// Both counted from one second, so that the difference fits 64 bits.
+// Both counted from one second, so that the difference fits 64 bits. Past a hundred seconds no rule asks how long.
 #[tactic(auto, using(crate::proofs::TimeLaws::back, crate::proofs::TimeLaws::near, crate::proofs::TimeLaws::far))]
-fn between(a: Nanos, b: Nanos) -> Span
+fn between(a: Nanos, b: Nanos) -> Elapsed<Nanos>
     ensures { result ≡ span_of a.0 b.0 }
 {
     let x = a.0;
     let y = b.0;
     if y < x {
-        return Span::Backwards(cut(Nanos(x - y)));
+        return Elapsed::Backwards(cut(Nanos(x - y)));
     }
     if y - x < 100000000000 {
-        Span::Nanos(Nanos(y - x))
+        Elapsed::Within(Nanos(y - x))
     } else {
-        Span::Far
+        Elapsed::TooFar
     }
 }
 
 // Seconds far apart settle the answer, whatever the nanosecond fields hold.
 #[tactic(auto, using(crate::proofs::TimeLaws::back, crate::proofs::TimeLaws::far, crate::proofs::TimeLaws::shift))]
-fn apart(from: Time, to: Time) -> Span
+fn apart(from: Time, to: Time) -> Elapsed<Nanos>
     ensures { result ≡ span_of (ns from) (ns to) }
 {
     let s = from.sec;
@@ -114,7 +107,7 @@ fn apart(from: Time, to: Time) -> Span
     if s <= t {
         let d = t - s;
         if 110 < d {
-            return Span::Far;
+            return Elapsed::TooFar;
         }
         between(
             Nanos(from.nano as u64),
@@ -123,7 +116,7 @@ fn apart(from: Time, to: Time) -> Span
     } else {
         let d = s - t;
         if 110 < d {
-            return Span::Backwards(Nanos(4294967295));
+            return Elapsed::Backwards(Nanos(4294967295));
         }
         between(
             Nanos(d * 1000000000 + from.nano as u64),
@@ -134,13 +127,13 @@ fn apart(from: Time, to: Time) -> Span
 
 // From a header time to a reading of the clock.
 #[tactic(auto, using(crate::proofs::TimeLaws::by_span))]
-pub fn measure(from: Time, to: Time) -> Elapsed
+pub fn measure(from: Time, to: Time) -> Elapsed<Ticks>
     ensures { result ≡ elapsed (ns from) (ns to) }
 {
     match apart(from, to) {
-        Span::Nanos(n) => ticks_of_nanos(n),
-        Span::Far => Elapsed::TooFar,
-        Span::Backwards(n) => Elapsed::Backwards(n),
+        Elapsed::Within(n) => ticks_of_nanos(n),
+        Elapsed::TooFar => Elapsed::TooFar,
+        Elapsed::Backwards(n) => Elapsed::Backwards(n),
     }
 }
 
@@ -151,12 +144,12 @@ pub fn overdue(from: Time, to: Time, deadline: Millis) -> bool
 {
     let most = deadline.0;
     match apart(from, to) {
-        Span::Nanos(n) => {
+        Elapsed::Within(n) => {
             let m = millis_of_nanos(n);
             (1 <= most) & (most <= m.0)
         }
-        Span::Far => 1 <= most,
-        Span::Backwards(_) => false,
+        Elapsed::TooFar => 1 <= most,
+        Elapsed::Backwards(_) => false,
     }
 }
 

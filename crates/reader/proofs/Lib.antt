@@ -1,3 +1,5 @@
+pub mod TimeLaws
+pub mod ItemsLaws
 pub mod AlongLaws
 pub mod FrameLaws
 pub mod Theorems

@@ -1,18 +1,14 @@
 -- Any two outcomes that a public function's own contract permits coincide.
 use mathlib.Core.Path.{◌≡◌, sym, ◌∙◌}
 use Rattle.reader.proofs.frame.judge.Reads as judge
-use Rattle.reader.proofs.frame.judged_refusal.Reads as judged-refusal
-use Rattle.reader.proofs.frame.item_refusal.Reads as item-refusal
 use Rattle.reader.proofs.place.step.Reads as step
 use Rattle.reader.proofs.place.item_at.Reads as item-at
 use Rattle.reader.proofs.place.payload.Reads as payload
 use Rattle.reader.proofs.place.payload_at.Reads as payload-at
 use Rattle.reader.proofs.copy.rewrite.Reads as rewrite
-use Rattle.reader.proofs.answer.judged_number.Reads as judged-number
-use Rattle.reader.proofs.answer.judged_header.Reads as judged-header
-use Rattle.reader.proofs.answer.stepped_number.Reads as stepped-number
-use Rattle.reader.proofs.answer.rewritten_number.Reads as rewritten-number
-use Rattle.reader.proofs.answer.rewritten_length.Reads as rewritten-length
+use Rattle.reader.proofs.copy.U8FromRewriteError.from.Reads as number
+use Rattle.reader.proofs.copy.RewriteErrorFromRefusal.from.Reads as refused
+use Rattle.reader.proofs.place.time_at.Reads as time-at
 
 pub judge_unique : (κs : _) (a : _) (r r' : _) (x x' : _) → judge.Post κs a r x → judge.Post κs a r' x' → r ≡ r'
 judge_unique κs a r r' x x' p q = p ∙ sym q
@@ -32,23 +28,11 @@ payload_at_unique κs a r r' x x' p q = p ∙ sym q
 pub rewrite_unique : (κs : _) (a : _) (r r' : _) (x x' : _) → rewrite.Post κs a r x → rewrite.Post κs a r' x' → (r ≡ r') × (x.1.0.now ≡ x'.1.0.now)
 rewrite_unique κs a r r' x x' p q = (p.0 ∙ sym q.0, p.1 ∙ sym q.1)
 
-pub judged_number_unique : (κs : _) (a : _) (r r' : _) (x x' : _) → judged-number.Post κs a r x → judged-number.Post κs a r' x' → r ≡ r'
-judged_number_unique κs a r r' x x' p q = p ∙ sym q
+pub number_unique : (κs : _) (a : _) (r r' : _) (x x' : _) → number.Post κs a r x → number.Post κs a r' x' → r ≡ r'
+number_unique κs a r r' x x' p q = p ∙ sym q
 
-pub judged_header_unique : (κs : _) (a : _) (r r' : _) (x x' : _) → judged-header.Post κs a r x → judged-header.Post κs a r' x' → r ≡ r'
-judged_header_unique κs a r r' x x' p q = p ∙ sym q
+pub refused_unique : (κs : _) (a : _) (r r' : _) (x x' : _) → refused.Post κs a r x → refused.Post κs a r' x' → r ≡ r'
+refused_unique κs a r r' x x' p q = p ∙ sym q
 
-pub stepped_number_unique : (κs : _) (a : _) (r r' : _) (x x' : _) → stepped-number.Post κs a r x → stepped-number.Post κs a r' x' → r ≡ r'
-stepped_number_unique κs a r r' x x' p q = p ∙ sym q
-
-pub rewritten_number_unique : (κs : _) (a : _) (r r' : _) (x x' : _) → rewritten-number.Post κs a r x → rewritten-number.Post κs a r' x' → r ≡ r'
-rewritten_number_unique κs a r r' x x' p q = p ∙ sym q
-
-pub rewritten_length_unique : (κs : _) (a : _) (r r' : _) (x x' : _) → rewritten-length.Post κs a r x → rewritten-length.Post κs a r' x' → r ≡ r'
-rewritten_length_unique κs a r r' x x' p q = p ∙ sym q
-
-pub item_refusal_unique : (κs : _) (a : _) (r r' : _) (x x' : _) → item-refusal.Post κs a r x → item-refusal.Post κs a r' x' → r ≡ r'
-item_refusal_unique κs a r r' x x' p q = p ∙ sym q
-
-pub judged_refusal_unique : (κs : _) (a : _) (r r' : _) (x x' : _) → judged-refusal.Post κs a r x → judged-refusal.Post κs a r' x' → r ≡ r'
-judged_refusal_unique κs a r r' x x' p q = p ∙ sym q
+pub time_at_unique : (κs : _) (a : _) (r r' : _) (x x' : _) → time-at.Post κs a r x → time-at.Post κs a r' x' → r ≡ r'
+time_at_unique κs a r r' x x' p q = p ∙ sym q

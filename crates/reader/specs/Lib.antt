@@ -1,3 +1,4 @@
 pub mod Frame
+pub mod Items
 pub mod Listing
 pub mod Answer

@@ -1,11 +1,12 @@
 -- What stepping through a frame yields, and what a frame of the layout is.
-use Rattle.std.specs.Prelude.{ℕ, zero, suc, ◌+◌, ◌≡◌, Bool, false, ◌||◌, List, [], ◌∷◌, length, eqb}
+use Rattle.std.specs.Prelude.{ℕ, zero, suc, ◌+◌, ◌≡◌, Bool, false, ◌||◌, List, [], ◌∷◌, length, eqb, Option, Some, None, Result, Ok, Err}
 use Rattle.codec.specs.Time.{recovered_of}
 use Rattle.codec.specs.Item.{encode}
 use Rattle.codec.specs.Layout.{Entry, Head, AllValid, body, layout}
 use Rattle.codec.specs.declared.time.Time.{Time}
 use Rattle.codec.specs.declared.item.Item.{Item}
 use Rattle.codec.specs.declared.header.Header.{Header}
+use Rattle.codec.specs.declared.refusal.Refusal.{Refusal}
 use Rattle.reader.specs.declared.place.Stepped.{Stepped}
 use Rattle.reader.specs.Frame.{step_of, payload_of}
 
@@ -17,17 +18,17 @@ pub record Yield : Type 0 where
   pub item : Item
   pub payload : List ℕ
 
-abbrev pub open_stepped : {A : Type 0} → Stepped → (ℕ → Time → Item → A) → A → A
-open_stepped (Stepped.Item next time item len) k z = k next time item
-open_stepped Stepped.End k z = z
-open_stepped (Stepped.Refused why) k z = z
+abbrev pub open_stepped : {A : Type 0} → Result (Option Stepped) Refusal → (Stepped → A) → A → A
+open_stepped (Ok (Some step)) k z = k step
+open_stepped (Ok None) k z = z
+open_stepped (Err why) k z = z
 
 -- stepping from a place on, n times at most, until the end or a refusal
 unfoldable pub stepping : ℕ → List ℕ → ℕ → List Yield
 stepping zero s at = []
 stepping (suc n) s at =
     open_stepped (step_of s at)
-    (λ next time item. record { place = at; next = next; time = time; item = item; payload = payload_of s at } ∷ stepping n s next) []
+    (λ step. record { place = at; next = step.next; time = step.time; item = step.item; payload = payload_of s at } ∷ stepping n s step.next) []
 
 -- the items of a list one after the other from a place on, dated from a header time
 abbrev pub listing : Time → ℕ → List Entry → List Yield

@@ -1,115 +1,83 @@
 // One item at a place, and its payload as that very part of the caller's frame.
-ghost use Rattle.std.specs.Prelude.{◌≡◌, ◌≤◌, length};
-ghost use Rattle.reader.specs.Frame.{time_in, starts_of, held_of, item_at_of, payload_at_of, step_of, payload_of};
+ghost use Rattle.std.specs.Prelude.{◌≡◌};
+ghost use Rattle.reader.specs.Frame.{time_at, starts_of, held_of, item_at_of, payload_at_of, step_of, payload_of};
 
-use crate::frame::Judged;
-use codec::field::ItemRead;
+use crate::items::Items;
 use codec::item::Item;
 use codec::refusal::Refusal;
 use codec::time::Time;
 
-#[derive(Drop)]
-pub enum Stepped {
-    Item {
-        next: usize,
-        time: Time,
-        item: Item,
-        length: usize,
-    },
-    End,
-    Refused(Refusal),
+// An item, when it was on the bus, how long its payload is, and where the next item or the end is.
+#[derive(Clone, Copy)]
+pub struct Stepped {
+    pub next: usize,
+    pub time: Time,
+    pub item: Item,
+    pub length: usize,
 }
 
-// The header time of a frame, whatever else stands in it.
-#[tactic(auto, unfolding(crate::specs::Frame::time_in))]
-fn time_in(frame: &[u8]) -> Time
-    ensures { result ≡ time_in frame.now }
+// The time at an index, as a header has it, whatever else stands there. What is past the bytes counts as zero.
+#[tactic(auto, using(crate::proofs::TimeLaws::nano_cut), unfolding(crate::specs::Frame::time_at))]
+pub fn time_at(s: &[u8], at: usize) -> Time
+    ensures { result ≡ time_at s.now at }
 {
     Time {
-        sec: codec::number::word_at(frame, 2, 6),
-        nano: codec::number::word_at(frame, 8, 4) as u32,
+        sec: codec::number::word_at(s, at, 6),
+        nano: codec::number::word_at(s, at.saturating_add(6), 4) as u32,
     }
 }
 
-// Reads at a place without judging the frame: for a listing that judged it once.
+// Reads at a place without judging the frame: for a listing that judged it once. The end has no item.
 #[tactic(auto, unfolding(crate::specs::Frame::item_at_of))]
-pub fn item_at(frame: &[u8], place: usize) -> Stepped
+pub fn item_at(frame: &[u8], place: usize) -> Result<Option<Stepped>, Refusal>
     ensures { result ≡ item_at_of frame.now place }
 {
     if place == frame.len() {
-        return Stepped::End;
+        return Ok(None);
     }
-    let read = codec::field::read_item(frame, place);
-    let ItemRead::Got {
-        item,
-        start: _,
-        len,
-        next,
-    } = read
-    else {
-        return Stepped::Refused(crate::frame::item_refusal(read));
-    };
-    let offset = item.offset;
-    Stepped::Item {
-        next,
-        time: codec::time::recovered(time_in(frame), offset),
-        item,
-        length: len,
-    }
+    let decoded = codec::field::read_item(frame, place)?;
+    Ok(Some(Stepped {
+        next: decoded.next,
+        time: codec::time::recovered(time_at(frame, 2), decoded.item.offset),
+        item: decoded.item,
+        length: decoded.len,
+    }))
 }
 
 #[tactic(auto, unfolding(crate::specs::Frame::payload_at_of))]
 pub fn payload_at(frame: &[u8], place: usize) -> &[u8]
     ensures { result.now ≡ payload_at_of frame.now place }
 {
-    let ItemRead::Got {
-        item: _,
-        start,
-        len,
-        next: _,
-    } = codec::field::read_item(frame, place)
-    else {
-        return &frame[..0];
-    };
-    codec::field::part_at(frame, start, len)
+    match codec::field::read_item(frame, place) {
+        Ok(decoded) => codec::field::part_at(frame, decoded.start, decoded.len),
+        Err(_) => &frame[..0],
+    }
 }
 
-// The place starts an item or is the end, walking from the first item.
-fn starts(frame: &[u8], first: usize, place: usize) -> bool
-    requires { first ≤ length frame.now }
-    ensures { result ≡ starts_of frame.now place first }
+// The place starts an item or is the end.
+fn starts(frame: &[u8], place: usize) -> bool
+    ensures { result ≡ starts_of frame.now place 14 }
 {
-    let mut at = first;
-    while at < frame.len() {
-        let ItemRead::Got {
-            item: _,
-            start: _,
-            len: _,
-            next,
-        } = codec::field::read_item(frame, at)
-        else {
+    for read in Items::of(frame) {
+        let Ok((here, _)) = read else {
             return false;
         };
-        if at == place {
+        if here == place {
             return true;
         }
-        at = next;
     }
-    at == place
+    frame.len() == place
 }
 
 #[tactic(auto, unfolding(crate::specs::Frame::step_of))]
-pub fn step(frame: &[u8], place: usize) -> Stepped
+pub fn step(frame: &[u8], place: usize) -> Result<Option<Stepped>, Refusal>
     ensures { result ≡ step_of frame.now place }
 {
-    let judged = crate::frame::judge(frame);
-    let Judged::Frame(_) = judged else {
-        return Stepped::Refused(crate::frame::judged_refusal(judged));
-    };
-    if starts(frame, 14, place) {
+    crate::frame::judge(frame)?;
+    if starts(frame, place) {
         item_at(frame, place)
     } else {
-        Stepped::Refused(Refusal::Place)
+        Err(Refusal::Place)
     }
 }
 
@@ -118,10 +86,7 @@ pub fn step(frame: &[u8], place: usize) -> Stepped
 fn held(frame: &[u8], place: usize) -> bool
     ensures { result ≡ held_of frame.now place }
 {
-    let Judged::Frame(_) = crate::frame::judge(frame) else {
-        return false;
-    };
-    starts(frame, 14, place)
+    crate::frame::judge(frame).is_ok() && starts(frame, place)
 }
 
 #[tactic(auto, unfolding(crate::specs::Frame::payload_of))]

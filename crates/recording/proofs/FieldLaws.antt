@@ -8,45 +8,45 @@ use lib.Dec.{leb, eqb}
 use borrow.Author.Tests.{lt-ltb, le-ltb, le-leb, lt-leb, eq-eqb, ne_eqb, leb-true, leb-false, eqb-true, eqb-false}
 use Rattle.codec.proofs.Opened.{never}
 use Rattle.codec.proofs.BoolLaws.{and_false, or_true}
-use Rattle.codec.specs.Refusal.{number_of}
+use Rattle.std.specs.Prelude.{Ok, Err}
 use Rattle.codec.specs.declared.time.Time.{Time}
 use Rattle.codec.specs.declared.header.Header.{Header}
 use Rattle.codec.specs.declared.refusal.Refusal.{Refusal}
 use Rattle.reader.specs.Frame.{judge_of}
-use Rattle.reader.specs.declared.frame.Judged.{Judged}
+use Rattle.recording.specs.declared.error.RecordError.{RecordError}
 use Rattle.recording.specs.declared.field.Found.{Found}
 use Rattle.recording.specs.File.{frame_found, note_found, start_in, start_found, verdict, keeps}
 
 module _ (n : ℕ) (body : List ℕ) where
-  pub frame_long : 1472 < n → Found.Refused 41 ≡ frame_found n body
+  pub frame_long : 1472 < n → Err RecordError.Long ≡ frame_found n body
   unfolding frame_found
   frame_long h = simp (lt-ltb 1472 n h)
 
-  pub frame_good : {h : Header} → n ≤ 1472 → judge_of body ≡ Judged.Frame h → Found.Frame h ≡ frame_found n body
+  pub frame_good : {h : Header} → n ≤ 1472 → judge_of body ≡ Ok h → Ok (Found.Frame h) ≡ frame_found n body
   unfolding frame_found
   frame_good k e = simp (le-ltb 1472 n k, e)
 
-  pub frame_bad : {why : Refusal} → n ≤ 1472 → judge_of body ≡ Judged.Refused why → Found.Refused (number_of why) ≡ frame_found n body
+  pub frame_bad : {why : Refusal} → n ≤ 1472 → judge_of body ≡ Err why → Err (RecordError.Frame why) ≡ frame_found n body
   unfolding frame_found
   frame_bad k e = simp (le-ltb 1472 n k, e)
 
-  pub start_size : (n ≡ 10 → ⊥) → Found.Refused 42 ≡ start_found n body
+  pub start_size : (n ≡ 10 → ⊥) → Err RecordError.Start ≡ start_found n body
   unfolding start_found
   start_size h = simp (ne_eqb n 10 h)
 
-  pub start_nanos : {t : Time} → n ≡ 10 → t ≡ start_in body → 999999999 < t.nano → Found.Refused 42 ≡ start_found n body
+  pub start_nanos : {t : Time} → n ≡ 10 → t ≡ start_in body → 999999999 < t.nano → Err RecordError.Start ≡ start_found n body
   unfolding start_found
   start_nanos {t} h e k = rw (← e) (simp (eq-eqb n 10 h, lt-leb t.nano 999999999 k))
 
-  pub start_good : {t : Time} → n ≡ 10 → t ≡ start_in body → t.nano ≤ 999999999 → Found.Start t ≡ start_found n body
+  pub start_good : {t : Time} → n ≡ 10 → t ≡ start_in body → t.nano ≤ 999999999 → Ok (Found.Start t) ≡ start_found n body
   unfolding start_found
   start_good {t} h e k = rw (← e) (simp (eq-eqb n 10 h, le-leb t.nano 999999999 k))
 
-pub note_long : (n : ℕ) → 1472 < n → Found.Refused 41 ≡ note_found n
+pub note_long : (n : ℕ) → 1472 < n → Err RecordError.Long ≡ note_found n
 unfolding note_found
 note_long n h = simp (lt-ltb 1472 n h)
 
-pub note_good : (n : ℕ) → n ≤ 1472 → Found.Note ≡ note_found n
+pub note_good : (n : ℕ) → n ≤ 1472 → Ok Found.Note ≡ note_found n
 unfolding note_found
 note_good n h = simp (le-ltb 1472 n h)
 
@@ -64,7 +64,7 @@ module _ (tag n : ℕ) (body : List ℕ) where
   unfolding verdict
   is_start a b e = simp (ne_eqb tag 1 a, ne_eqb tag 2 b, eq-eqb tag 3 e)
 
-  pub is_other : (tag ≡ 1 → ⊥) → (tag ≡ 2 → ⊥) → (tag ≡ 3 → ⊥) → verdict tag n body ≡ Found.Skipped
+  pub is_other : (tag ≡ 1 → ⊥) → (tag ≡ 2 → ⊥) → (tag ≡ 3 → ⊥) → verdict tag n body ≡ Ok Found.Skipped
   unfolding verdict
   is_other a b d = simp (ne_eqb tag 1 a, ne_eqb tag 2 b, ne_eqb tag 3 d)
 

@@ -8,6 +8,7 @@ use lib.ListN.{length, take, drop, get_or, length-drop, length-append, drop_of_l
 use lib.Seq.{length-take-le, take_at, drop-append-add, take-append-add, take-nil, take_all}
 use lib.Dec.{ltb, leb}
 use borrow.Author.Tests.{leb-true, leb-false, ltb-true, ltb-false}
+use Rattle.std.specs.Prelude.{Result, None}
 use Rattle.codec.specs.Choice.{pick}
 use Rattle.codec.specs.Number.{over, fits}
 use Rattle.codec.specs.Field.{bytes_at}
@@ -15,9 +16,9 @@ use Rattle.codec.proofs.NumberLaws.{has_room_lem, length_over}
 use Rattle.recording.specs.File.{Finding, length_in, size_in, complete, first, verdict, keeps, finding_of}
 use Rattle.recording.specs.Pieces.{fresh, length_of, size_of, head_byte, headed_of, used_of, part_of, buffer_of, found_of, counted, done_of, more_of, moved_of, place_of, next_of, kept_of}
 use Rattle.recording.specs.Calls.{noted}
+use Rattle.recording.specs.declared.error.RecordError.{RecordError}
 use Rattle.recording.specs.declared.field.Found.{Found}
 use Rattle.recording.specs.declared.pieces.Place.{Place}
-use Rattle.recording.specs.declared.pieces.Seen.{Seen}
 use Rattle.recording.proofs.FieldLaws.{keeps_short, unkept}
 use Rattle.recording.proofs.PlaceLaws.{sound_same, head_old, head_new, get_any, used_all, used_rest, ends_more, ends_done}
 use Rattle.recording.proofs.FileLaws.{there, not_yet, is_cut, body-length, get_right}
@@ -91,7 +92,7 @@ pick_as : (b : Bool) {x y : List ℕ} → (b ≡ true → x ≡ y) → pick b x 
 pick_as true f = f refl
 pick_as false f = refl
 
-finding_as : {a a' n n' : ℕ} {f f' : Found} {b b' : List ℕ} → a ≡ a' → n ≡ n' → f ≡ f' → b ≡ b'
+finding_as : {a a' n n' : ℕ} {f f' : Result Found RecordError} {b b' : List ℕ} → a ≡ a' → n ≡ n' → f ≡ f' → b ≡ b'
     → ◌≡◌ {A = List Finding} (record { tag = a; size = n; found = f; body = b } ∷ []) (record { tag = a'; size = n'; found = f'; body = b' } ∷ [])
 finding_as x y z w = rw (x, y, z, w)
 
@@ -215,7 +216,7 @@ module _ (p : Place) (buffer u t : List ℕ) (h : Holds p buffer u) where
 
 -- the piece ends inside the field
 pub record Went (p : Place) (buffer u t : List ℕ) : Type 0 where
-  pub seen : (next_of p buffer t).seen ≡ Seen.More
+  pub seen : (next_of p buffer t).seen ≡ None
   pub used : (next_of p buffer t).used ≡ length t
   pub holds : Holds (next_of p buffer t).place (kept_of p buffer t) (u ++ t)
   pub skipped : (next_of p buffer t).place.skipped ≡ p.skipped

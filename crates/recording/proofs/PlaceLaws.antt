@@ -1,5 +1,5 @@
 -- Laws of one call on a piece. Assumes nothing.
-use Prim.Native.Nat.{ℕ, zero, suc, ◌+◌, ◌-◌, ◌≤◌, ◌<◌}
+use Prim.Native.Nat.{ℕ, zero, suc, ◌+◌, ◌-◌, ◌≤◌, ◌<◌, min}
 use mathlib.Core.Path.{◌≡◌, refl, sym, ◌∙◌}
 use mathlib.Core.Bool.{Bool, true, false}
 use mathlib.Core.List.{List, [], ◌∷◌}
@@ -7,10 +7,11 @@ use native.Mathlib.Omega.{arith}
 use lib.ListN.{length, take, drop, get_or, get_or-eq_default}
 use lib.Dec.{ltb, leb}
 use borrow.Author.Tests.{lt-ltb, le-ltb, eq-eqb, ne_eqb, ltb-true, leb-true, leb-false}
+use Rattle.std.specs.Prelude.{Option, Ok, Err}
 use Rattle.codec.specs.Choice.{pick}
 use Rattle.codec.proofs.Opened.{never}
 use Rattle.codec.specs.Number.{Wrote}
-use Rattle.codec.specs.declared.number.Put.{Put}
+use Rattle.recording.specs.declared.error.RecordError.{RecordError}
 use Rattle.recording.specs.declared.pieces.Place.{Place}
 use Rattle.recording.specs.declared.pieces.Step.{Step}
 use Rattle.recording.specs.File.{keeps}
@@ -73,34 +74,38 @@ module _ (p : Place) (n : ℕ) where
   unfolding ends_of
   ends_done buffer h = simp (le-ltb (p.past + n) (size_of p) h)
 
--- the part of a piece that is of the body
-module _ (p : Place) (piece : List ℕ) {n head : ℕ} (e : n ≡ used_of p (length piece)) (f : head ≡ 3 - p.past) where
-  pub part_none : n ≤ head → [] ≡ part_of p piece
-  unfolding part_of
-  part_none h =
-      let k : n - head ≡ 0 = omega arith in
-      rw (← e, ← f, k)
-
-  pub part_is : take (n - head) (drop head piece) ≡ part_of p piece
-  unfolding part_of
-  part_is = rw (e, f)
+-- the part of a piece that is of the body, where k is the index of its first byte, or the end where there is none
+pub part_is : (p : Place) (piece : List ℕ) {n k : ℕ} → n ≡ used_of p (length piece) → k ≡ min (3 - p.past) n → take (n - k) (drop k piece) ≡ part_of p piece
+unfolding part_of
+part_is p piece {n} {k} e f = go (leb n (3 - p.past)) refl
+  where
+    go : (b : Bool) → leb n (3 - p.past) ≡ b → take (n - k) (drop k piece) ≡ take (used_of p (length piece) - (3 - p.past)) (drop (3 - p.past) piece)
+    go true h =
+        let l = leb-true n (3 - p.past) h in
+        let x : n - k ≡ 0 = omega arith in
+        let y : n - (3 - p.past) ≡ 0 = omega arith in
+        rw (← e, x, y)
+    go false h =
+        let l = leb-false n (3 - p.past) h in
+        let x : k ≡ 3 - p.past = omega arith in
+        rw (← e, x)
 
 -- what is kept
 pub not_kept : (p : Place) (buffer piece : List ℕ) → keeps p.tag (length_of p) ≡ false → buffer_of p buffer piece ≡ buffer
 unfolding buffer_of
 not_kept p buffer piece e = simp e
 
-pub kept_by_lem : {l' : List ℕ} {r : Put} (p : Place) (buffer piece : List ℕ) → keeps p.tag (length_of p) ≡ true
+pub kept_by_lem : {l' : List ℕ} {r : Option ℕ} (p : Place) (buffer piece : List ℕ) → keeps p.tag (length_of p) ≡ true
     → Wrote true buffer (p.past - 3) (part_of p piece) l' r → l' ≡ buffer_of p buffer piece
 unfolding buffer_of
 kept_by_lem p buffer piece e w = w.list ∙ simp e
 
 -- the answer at the end
-pub finish_none : (p : Place) → (sound_of p).past ≡ 0 → 0 ≡ finish_of p
+pub finish_none : (p : Place) → (sound_of p).past ≡ 0 → Ok tt ≡ finish_of p
 unfolding finish_of
 finish_none p h = simp (eq-eqb (sound_of p).past 0 h)
 
-pub finish_inside : (p : Place) → ((sound_of p).past ≡ 0 → ⊥) → 40 ≡ finish_of p
+pub finish_inside : (p : Place) → ((sound_of p).past ≡ 0 → ⊥) → Err RecordError.Cut ≡ finish_of p
 unfolding finish_of
 finish_inside p h = simp (ne_eqb (sound_of p).past 0 h)
 

@@ -11,7 +11,7 @@ use borrow.Author.Tests.{le-leb, leb-true, ltb-false, eqb-true, eqb-false}
 use Rattle.codec.specs.Choice.{pick}
 use Rattle.codec.specs.Number.{word, word_at, Bytes}
 use Rattle.codec.specs.Time.{time_ok}
-use Rattle.codec.specs.Refusal.{number_of}
+use Rattle.std.specs.Prelude.{Result, Ok, Err, ⊤}
 use Rattle.codec.specs.declared.time.Time.{Time}
 use Rattle.codec.specs.declared.header.Header.{Header}
 use Rattle.codec.specs.declared.refusal.Refusal.{Refusal}
@@ -20,9 +20,8 @@ use Rattle.codec.proofs.BoolLaws.{and_l, and_r}
 use Rattle.codec.proofs.NumberLaws.{word_is}
 use Rattle.codec.proofs.Stands.{val-be, bytes_part, word_stands, part_back}
 use Rattle.codec.proofs.Stands.{join as join_Stands}
-use Rattle.reader.specs.Frame.{judge_of, open_judged}
-use Rattle.reader.specs.Answer.{judged_number}
-use Rattle.reader.specs.declared.frame.Judged.{Judged}
+use Rattle.reader.specs.Frame.{judge_of, resolved, time_at}
+use Rattle.recording.specs.declared.error.RecordError.{RecordError}
 use Rattle.recording.specs.File.{Raw, length_in, size_in, complete, first, fields_of, left_of, frame_found, note_found, start_in, start_found, verdict, keeps, finding_of, findings_of}
 use Rattle.recording.specs.Write.{field_bytes, start_bytes, frame_answer, note_answer, start_answer}
 use Rattle.recording.specs.Trip.{answer_in, good, AllGood, raw_bytes, file_of, again_by, again, again_all}
@@ -125,16 +124,17 @@ pub whole : (s : List ℕ) → Bytes s → s ≡ file_of (fields_of s) ++ left_o
 whole s b = (parts (length s) s b (omega arith)).is
 
 -- The writer's answer is that of the listing.
-judged_answer : (j : Judged) → judged_number j ≡ answer_in (open_judged j Found.Frame (λ why. Found.Refused (number_of why)))
-judged_answer (Judged.Frame h) = refl
-judged_answer (Judged.Refused why) = refl
+judged_answer : (j : Result Header Refusal) → resolved j (λ h. Ok tt) (λ why. Err (RecordError.Frame why))
+    ≡ answer_in (resolved j (λ h. Ok (Found.Frame h)) (λ why. Err (RecordError.Frame why)))
+judged_answer (Ok h) = refl
+judged_answer (Err why) = refl
 
 pub frame_answers : (body : List ℕ) → frame_answer body ≡ answer_in (verdict 1 (length body) body)
 unfolding frame_answer verdict frame_found
 frame_answers body = go (ltb 1472 (length body)) (judge_of body)
   where
-    go : (b : Bool) (j : Judged) → pick b 41 (judged_number j)
-        ≡ answer_in (pick b (Found.Refused 41) (open_judged j Found.Frame (λ why. Found.Refused (number_of why))))
+    go : (b : Bool) (j : Result Header Refusal) → pick b (Err RecordError.Long) (resolved j (λ h. Ok (tt {0})) (λ why. Err (RecordError.Frame why)))
+        ≡ answer_in (pick b (Err RecordError.Long) (resolved j (λ h. Ok (Found.Frame h)) (λ why. Err (RecordError.Frame why))))
     go true j = refl
     go false j = judged_answer j
 
@@ -142,7 +142,7 @@ pub note_answers : (body : List ℕ) → note_answer body ≡ answer_in (verdict
 unfolding note_answer verdict note_found
 note_answers body = go (ltb 1472 (length body))
   where
-    go : (b : Bool) → pick b 41 0 ≡ answer_in (pick b (Found.Refused 41) Found.Note)
+    go : (b : Bool) → pick b (Err RecordError.Long) (Ok tt) ≡ answer_in (pick b (Err RecordError.Long) (Ok Found.Note))
     go true = refl
     go false = refl
 
@@ -151,43 +151,30 @@ pub lists : (f : Raw) (s : List ℕ) → length f.body ≤ 65535 → findings_of
 unfolding findings_of
 lists f s h = rw (field_back f s h)
 
-no_zero : (why : Refusal) → number_of why ≡ 0 → ⊥
-no_zero Refusal.Short e = omega arith
-no_zero Refusal.Version e = omega arith
-no_zero Refusal.Length e = omega arith
-no_zero Refusal.Missing e = omega arith
-no_zero Refusal.Network e = omega arith
-no_zero Refusal.Reserved e = omega arith
-no_zero Refusal.Flags e = omega arith
-no_zero Refusal.Payload e = omega arith
-no_zero Refusal.Nanos e = omega arith
-no_zero Refusal.Range e = omega arith
-no_zero Refusal.Place e = omega arith
-
-pub frame_lists : (body : List ℕ) {h : Header} → frame_answer body ≡ 0 → judge_of body ≡ Judged.Frame h → verdict 1 (length body) body ≡ Found.Frame h
+pub frame_lists : (body : List ℕ) {h : Header} → frame_answer body ≡ Ok tt → judge_of body ≡ Ok h → verdict 1 (length body) body ≡ Ok (Found.Frame h)
 unfolding frame_answer verdict
 frame_lists body {h} e j = go (ltb 1472 (length body)) refl
   where
-    go : (b : Bool) → ltb 1472 (length body) ≡ b → frame_found (length body) body ≡ Found.Frame h
-    go true f = let z : ◌≡◌ {A = ℕ} 41 0 = rw f at e in let y : ◌≡◌ {A = ℕ} 0 1 = omega arith in never y
+    go : (b : Bool) → ltb 1472 (length body) ≡ b → frame_found (length body) body ≡ Ok (Found.Frame h)
+    go true f = let z : ◌≡◌ {A = Result ⊤ RecordError} (Err RecordError.Long) (Ok tt) = rw f at e in never (cc)
     go false f = sym (frame_good (length body) body (ltb-false 1472 (length body) f) j)
 
-pub frame_is_good : (body : List ℕ) → frame_answer body ≡ 0 → good (verdict 1 (length body) body) ≡ true
+pub frame_is_good : (body : List ℕ) → frame_answer body ≡ Ok tt → good (verdict 1 (length body) body) ≡ true
 unfolding frame_answer verdict frame_found
 frame_is_good body e = go (ltb 1472 (length body)) (judge_of body) e
   where
-    go : (b : Bool) (j : Judged) → pick b 41 (judged_number j) ≡ 0
-        → good (pick b (Found.Refused 41) (open_judged j Found.Frame (λ why. Found.Refused (number_of why)))) ≡ true
-    go true j e = let y : ◌≡◌ {A = ℕ} 0 1 = omega arith in never y
-    go false (Judged.Frame h) e = refl
-    go false (Judged.Refused why) e = absurd (no_zero why e)
+    go : (b : Bool) (j : Result Header Refusal) → pick b (Err RecordError.Long) (resolved j (λ h. Ok (tt {0})) (λ why. Err (RecordError.Frame why))) ≡ Ok (tt {0})
+        → good (pick b (Err RecordError.Long) (resolved j (λ h. Ok (Found.Frame h)) (λ why. Err (RecordError.Frame why)))) ≡ true
+    go true j e = never (cc)
+    go false (Ok h) e = refl
+    go false (Err why) e = never (cc)
 
-pub note_lists : (body : List ℕ) → note_answer body ≡ 0 → verdict 2 (length body) body ≡ Found.Note
+pub note_lists : (body : List ℕ) → note_answer body ≡ Ok tt → verdict 2 (length body) body ≡ Ok Found.Note
 unfolding note_answer verdict note_found
 note_lists body e = go (ltb 1472 (length body)) e
   where
-    go : (b : Bool) → ◌≡◌ {A = ℕ} (pick b 41 0) 0 → pick b (Found.Refused 41) Found.Note ≡ Found.Note
-    go true e = let y : ◌≡◌ {A = ℕ} 0 1 = omega arith in never y
+    go : (b : Bool) → pick b (Err RecordError.Long) (Ok (tt {0})) ≡ Ok (tt {0}) → pick b (Err RecordError.Long) (Ok Found.Note) ≡ Ok Found.Note
+    go true e = never (cc)
     go false e = refl
 
 -- ten bytes and the time that they are
@@ -210,15 +197,15 @@ nano_ok : (t : Time) → time_ok t ≡ true → t.nano ≤ 999999999
 nano_ok t e = leb-true t.nano 999999999 (and_r (leb t.sec 281474976710655) (leb t.nano 999999999) e)
 
 start_in_back : (t : Time) → time_ok t ≡ true → start_in (start_bytes t) ≡ t
-unfolding start_in
+unfolding time_at
 start_in_back t e = rw (sec_back t (sec_ok t e), nano_back t (nano_ok t e))
 
-pub start_lists : (t : Time) → start_answer t ≡ 0 → verdict 3 10 (start_bytes t) ≡ Found.Start t
+pub start_lists : (t : Time) → start_answer t ≡ Ok tt → verdict 3 10 (start_bytes t) ≡ Ok (Found.Start t)
 unfolding start_answer
 start_lists t e = go (time_ok t) refl
   where
-    go : (b : Bool) → time_ok t ≡ b → verdict 3 10 (start_bytes t) ≡ Found.Start t
-    go false f = let z : ◌≡◌ {A = ℕ} 42 0 = rw f at e in let y : ◌≡◌ {A = ℕ} 0 1 = omega arith in never y
+    go : (b : Bool) → time_ok t ≡ b → verdict 3 10 (start_bytes t) ≡ Ok (Found.Start t)
+    go false f = let z : ◌≡◌ {A = Result ⊤ RecordError} (Err RecordError.Start) (Ok tt) = rw f at e in never (cc)
     go true f =
         is_start 3 10 (start_bytes t) (λ z. omega arith) (λ z. omega arith) refl ∙ sym (start_good 10 (start_bytes t) refl (sym (start_in_back t f)) (nano_ok t f))
 
@@ -227,25 +214,25 @@ frame_again : (n : ℕ) (body : List ℕ) → good (verdict 1 n body) ≡ true �
 unfolding verdict frame_found keeps
 frame_again n body e = go (ltb 1472 n) (judge_of body) refl e
   where
-    go : (b : Bool) (j : Judged) → ltb 1472 n ≡ b
-        → good (pick b (Found.Refused 41) (open_judged j Found.Frame (λ why. Found.Refused (number_of why)))) ≡ true
-        → again_by (pick b (Found.Refused 41) (open_judged j Found.Frame (λ why. Found.Refused (number_of why)))) (pick (keeps 1 n) body []) ≡ field_bytes 1 body
+    go : (b : Bool) (j : Result Header Refusal) → ltb 1472 n ≡ b
+        → good (pick b (Err RecordError.Long) (resolved j (λ h. Ok (Found.Frame h)) (λ why. Err (RecordError.Frame why)))) ≡ true
+        → again_by (pick b (Err RecordError.Long) (resolved j (λ h. Ok (Found.Frame h)) (λ why. Err (RecordError.Frame why)))) (pick (keeps 1 n) body []) ≡ field_bytes 1 body
     go true j f e = never (cc)
-    go false (Judged.Refused why) f e = never (cc)
-    go false (Judged.Frame h) f e = rw (le-leb n 1472 (ltb-false 1472 n f))
+    go false (Err why) f e = never (cc)
+    go false (Ok h) f e = rw (le-leb n 1472 (ltb-false 1472 n f))
 
 note_again : (n : ℕ) (body : List ℕ) → good (verdict 2 n body) ≡ true → again_by (verdict 2 n body) (pick (keeps 2 n) body []) ≡ field_bytes 2 body
 unfolding verdict note_found keeps
 note_again n body e = go (ltb 1472 n) refl e
   where
-    go : (b : Bool) → ltb 1472 n ≡ b → good (pick b (Found.Refused 41) Found.Note) ≡ true
-        → again_by (pick b (Found.Refused 41) Found.Note) (pick (keeps 2 n) body []) ≡ field_bytes 2 body
+    go : (b : Bool) → ltb 1472 n ≡ b → good (pick b (Err RecordError.Long) (Ok Found.Note)) ≡ true
+        → again_by (pick b (Err RecordError.Long) (Ok Found.Note)) (pick (keeps 2 n) body []) ≡ field_bytes 2 body
     go true f e = never (cc)
     go false f e = rw (le-leb n 1472 (ltb-false 1472 n f))
 
 -- ten bytes are the time's bytes again
 start_same : (body : List ℕ) → Bytes body → length body ≡ 10 → start_bytes (start_in body) ≡ body
-unfolding start_bytes start_in
+unfolding start_bytes time_at
 start_same body b n =
     let a = word_stands 6 body 0 b (omega arith) in
     let d = word_stands 4 body 6 b (omega arith) in
@@ -256,8 +243,8 @@ start_again : (body x : List ℕ) → Bytes body → good (verdict 3 (length bod
 unfolding verdict start_found
 start_again body x b e = go (eqb (length body) 10) (leb (start_in body).nano 999999999) refl e
   where
-    go : (p q : Bool) → eqb (length body) 10 ≡ p → good (pick (p && q) (Found.Start (start_in body)) (Found.Refused 42)) ≡ true
-        → again_by (pick (p && q) (Found.Start (start_in body)) (Found.Refused 42)) x ≡ field_bytes 3 body
+    go : (p q : Bool) → eqb (length body) 10 ≡ p → good (pick (p && q) (Ok (Found.Start (start_in body))) (Err RecordError.Start)) ≡ true
+        → again_by (pick (p && q) (Ok (Found.Start (start_in body))) (Err RecordError.Start)) x ≡ field_bytes 3 body
     go false q f e = never (cc)
     go true false f e = never (cc)
     go true true f e = ap (field_bytes 3) (start_same body b (eqb-true (length body) 10 f))
@@ -270,7 +257,7 @@ write_back f b e = one (eqb f.tag 1) refl
         let k = eqb-true f.tag 3 z in
         let g : good (verdict 3 (length f.body) f.body) ≡ true = rw k at e in
         rw k (start_again f.body _ b g)
-    three false x y z = let w : good Found.Skipped ≡ true = rw (is_other f.tag (length f.body) f.body x y (eqb-false f.tag 3 z)) at e in never (cc)
+    three false x y z = let w : good (Ok Found.Skipped) ≡ true = rw (is_other f.tag (length f.body) f.body x y (eqb-false f.tag 3 z)) at e in never (cc)
 
     two : (t : Bool) → (f.tag ≡ 1 → ⊥) → eqb f.tag 2 ≡ t → again (finding_of f) ≡ raw_bytes f
     two true x z =

@@ -1,10 +1,13 @@
 -- Any two outcomes that a public function's own contract permits coincide.
 use mathlib.Core.Path.{◌≡◌, sym, ◌∙◌}
+use Rattle.recording.proofs.error.U8FromRecordError.from.Reads as number
+use Rattle.recording.proofs.error.RecordErrorFromRefusal.from.Reads as refused
+use Rattle.recording.proofs.tag.U8FromTag.from.Reads as byte
+use Rattle.recording.proofs.tag.TagTryFromU8.try_from.Reads as tag
 use Rattle.recording.proofs.field.judge.Reads as judge
 use Rattle.recording.proofs.field.kept.Reads as kept
 use Rattle.recording.proofs.pieces.begin.Reads as begin
 use Rattle.recording.proofs.pieces.next.Reads as next
-use Rattle.recording.proofs.pieces.one_more.Reads as one_more
 use Rattle.recording.proofs.pieces.inside.Reads as inside
 use Rattle.recording.proofs.pieces.finish.Reads as finish
 use Rattle.recording.proofs.write.frame.Reads as frame
@@ -23,9 +26,6 @@ begin_unique κs a r r' x x' p q = p ∙ sym q
 pub next_unique : (κs : _) (a : _) (r r' : _) (x x' : _) → next.Post κs a r x → next.Post κs a r' x' → (r ≡ r') × (x.1.0.now ≡ x'.1.0.now)
 next_unique κs a r r' x x' p q = (p.0 ∙ sym q.0, p.1 ∙ sym q.1)
 
-pub one_more_unique : (κs : _) (a : _) (r r' : _) (x x' : _) → one_more.Post κs a r x → one_more.Post κs a r' x' → r ≡ r'
-one_more_unique κs a r r' x x' p q = p ∙ sym q
-
 pub inside_unique : (κs : _) (a : _) (r r' : _) (x x' : _) → inside.Post κs a r x → inside.Post κs a r' x' → r ≡ r'
 inside_unique κs a r r' x x' p q = p ∙ sym q
 
@@ -40,3 +40,15 @@ note_unique κs a r r' x x' p q = (p.says ∙ sym q.says, p.list ∙ sym q.list)
 
 pub start_unique : (κs : _) (a : _) (r r' : _) (x x' : _) → start.Post κs a r x → start.Post κs a r' x' → (r ≡ r') × (x.0.now ≡ x'.0.now)
 start_unique κs a r r' x x' p q = (p.says ∙ sym q.says, p.list ∙ sym q.list)
+
+pub number_unique : (κs : _) (a : _) (r r' : _) (x x' : _) → number.Post κs a r x → number.Post κs a r' x' → r ≡ r'
+number_unique κs a r r' x x' p q = p ∙ sym q
+
+pub refused_unique : (κs : _) (a : _) (r r' : _) (x x' : _) → refused.Post κs a r x → refused.Post κs a r' x' → r ≡ r'
+refused_unique κs a r r' x x' p q = p ∙ sym q
+
+pub byte_unique : (κs : _) (a : _) (r r' : _) (x x' : _) → byte.Post κs a r x → byte.Post κs a r' x' → r ≡ r'
+byte_unique κs a r r' x x' p q = p ∙ sym q
+
+pub tag_unique : (κs : _) (a : _) (r r' : _) (x x' : _) → tag.Post κs a r x → tag.Post κs a r' x' → r ≡ r'
+tag_unique κs a r r' x x' p q = p ∙ sym q

@@ -2,14 +2,17 @@
 use Prim.Native.Nat.{ℕ}
 use mathlib.Core.Path.{◌≡◌, refl}
 use mathlib.Core.List.{List, [], ◌∷◌, ◌++◌}
-use Rattle.recording.specs.File.{listing_of, complete, along, fields_of, left_of, frame_found, note_found, start_in, start_found, verdict, keeps, findings_of}
+use Rattle.recording.specs.File.{listing_of, complete, along, fields_of, left_of, frame_found, note_found, start_found, verdict, keeps, findings_of}
+use Rattle.recording.specs.declared.error.RecordError.{RecordError}
 use Rattle.recording.specs.declared.field.Found.{Found}
+use Rattle.std.specs.Prelude.{Ok, Err}
 use Rattle.codec.specs.Number.{word, word_at, fits}
 use Rattle.codec.specs.Header.{read_header}
-use Rattle.reader.specs.Frame.{judge_of}
+use Rattle.codec.specs.declared.refusal.Refusal.{Refusal}
+use Rattle.reader.specs.Frame.{judge_of, time_at}
 
 -- an empty file
-pub empty : listing_of [] ≡ record { findings = []; answer = 0; skipped = 0 }
+pub empty : listing_of [] ≡ record { findings = []; answer = Ok tt; skipped = 0 }
 unfolding listing_of findings_of fields_of left_of along
 empty = refl
 
@@ -22,15 +25,15 @@ small =
 pub small_lists : listing_of small
     ≡ record {
       findings =
-          record { tag = 2; size = 2; found = Found.Note; body = 111 ∷ 107 ∷ [] }
-          ∷ record { tag = 9; size = 1; found = Found.Skipped; body = [] }
-          ∷ record { tag = 2; size = 0; found = Found.Note; body = [] }
-          ∷ record { tag = 3; size = 10; found = Found.Start (record { sec = 5; nano = 1 }); body = 0 ∷ 0 ∷ 0 ∷ 0 ∷ 0 ∷ 5 ∷ 0 ∷ 0 ∷ 0 ∷ 1 ∷ [] }
+          record { tag = 2; size = 2; found = Ok Found.Note; body = 111 ∷ 107 ∷ [] }
+          ∷ record { tag = 9; size = 1; found = Ok Found.Skipped; body = [] }
+          ∷ record { tag = 2; size = 0; found = Ok Found.Note; body = [] }
+          ∷ record { tag = 3; size = 10; found = Ok (Found.Start (record { sec = 5; nano = 1 })); body = 0 ∷ 0 ∷ 0 ∷ 0 ∷ 0 ∷ 5 ∷ 0 ∷ 0 ∷ 0 ∷ 1 ∷ [] }
           ∷ [];
-      answer = 40;
+      answer = Err RecordError.Cut;
       skipped = 1;
     }
-unfolding listing_of findings_of fields_of left_of along complete verdict note_found start_found start_in keeps word word_at fits
+unfolding listing_of findings_of fields_of left_of along complete verdict note_found start_found time_at keeps word word_at fits
 small_lists = refl
 
 -- refusals: a frame of four bytes is too short, a start of nine bytes, a start of 1,000,000,000 ns; the next field is judged as if alone
@@ -38,35 +41,35 @@ pub refused_list : listing_of ((1 ∷ 0 ∷ 4 ∷ 1 ∷ 0 ∷ 0 ∷ 0 ∷ []) ++
     ++ (3 ∷ 0 ∷ 10 ∷ 0 ∷ 0 ∷ 0 ∷ 0 ∷ 0 ∷ 0 ∷ 59 ∷ 154 ∷ 202 ∷ 0 ∷ []) ++ (2 ∷ 0 ∷ 1 ∷ 33 ∷ []))
     ≡ record {
       findings =
-          record { tag = 1; size = 4; found = Found.Refused 20; body = 1 ∷ 0 ∷ 0 ∷ 0 ∷ [] }
-          ∷ record { tag = 3; size = 9; found = Found.Refused 42; body = [] }
-          ∷ record { tag = 3; size = 10; found = Found.Refused 42; body = 0 ∷ 0 ∷ 0 ∷ 0 ∷ 0 ∷ 0 ∷ 59 ∷ 154 ∷ 202 ∷ 0 ∷ [] }
-          ∷ record { tag = 2; size = 1; found = Found.Note; body = 33 ∷ [] }
+          record { tag = 1; size = 4; found = Err (RecordError.Frame Refusal.Short); body = 1 ∷ 0 ∷ 0 ∷ 0 ∷ [] }
+          ∷ record { tag = 3; size = 9; found = Err RecordError.Start; body = [] }
+          ∷ record { tag = 3; size = 10; found = Err RecordError.Start; body = 0 ∷ 0 ∷ 0 ∷ 0 ∷ 0 ∷ 0 ∷ 59 ∷ 154 ∷ 202 ∷ 0 ∷ [] }
+          ∷ record { tag = 2; size = 1; found = Ok Found.Note; body = 33 ∷ [] }
           ∷ [];
-      answer = 0;
+      answer = Ok tt;
       skipped = 0;
     }
-unfolding listing_of findings_of fields_of left_of along complete verdict frame_found note_found start_found start_in keeps word word_at fits judge_of read_header
+unfolding listing_of findings_of fields_of left_of along complete verdict frame_found note_found start_found time_at keeps word word_at fits judge_of read_header
 refused_list = refl
 
 -- lengths: 1,472 is a note and 1,473 is not, whatever the bytes; a frame of 1,473 bytes is 41 and never read; a start of 1,473 bytes is 42
-pub long_note : verdict 2 1472 [] ≡ Found.Note
+pub long_note : verdict 2 1472 [] ≡ Ok Found.Note
 unfolding verdict note_found
 long_note = refl
 
-pub longer_note : verdict 2 1473 [] ≡ Found.Refused 41
+pub longer_note : verdict 2 1473 [] ≡ Err RecordError.Long
 unfolding verdict note_found
 longer_note = refl
 
-pub longer_frame : (body : List ℕ) → verdict 1 1473 body ≡ Found.Refused 41
+pub longer_frame : (body : List ℕ) → verdict 1 1473 body ≡ Err RecordError.Long
 unfolding verdict frame_found
 longer_frame body = refl
 
-pub longer_start : (body : List ℕ) → verdict 3 1473 body ≡ Found.Refused 42
+pub longer_start : (body : List ℕ) → verdict 3 1473 body ≡ Err RecordError.Start
 unfolding verdict start_found
 longer_start body = refl
 
 -- a field of 1,473 bytes that the end cuts short gets 40 only
-pub cut_only : listing_of (1 ∷ 5 ∷ 193 ∷ 0 ∷ []) ≡ record { findings = []; answer = 40; skipped = 0 }
+pub cut_only : listing_of (1 ∷ 5 ∷ 193 ∷ 0 ∷ []) ≡ record { findings = []; answer = Err RecordError.Cut; skipped = 0 }
 unfolding listing_of findings_of fields_of left_of along complete
 cut_only = refl

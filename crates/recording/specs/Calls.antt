@@ -1,10 +1,10 @@
 -- The calls that read a file in pieces: on the rest of each piece until it is used up, then on the next.
-use Rattle.std.specs.Prelude.{ℕ, zero, suc, List, [], ◌∷◌, ◌++◌, length, take, drop, eqb}
+use Rattle.std.specs.Prelude.{ℕ, zero, suc, List, [], ◌∷◌, ◌++◌, length, take, drop, eqb, Option, Some, None}
 use Rattle.codec.specs.Choice.{pick}
 use Rattle.recording.specs.File.{Finding, Listing, keeps}
 use Rattle.recording.specs.Pieces.{fresh, next_of, kept_of, finish_of}
 use Rattle.recording.specs.declared.pieces.Place.{Place}
-use Rattle.recording.specs.declared.pieces.Seen.{Seen}
+use Rattle.recording.specs.declared.field.Field.{Field}
 
 -- what the caller has after some calls
 pub record Ran : Type 0 where
@@ -19,10 +19,10 @@ abbrev pub before : List Finding → Ran → Ran
 before fs r = record { findings = fs ++ r.findings; place = r.place; buffer = r.buffer }
 
 -- a field that a call found, with the body that it left at the front of the buffer
-abbrev pub noted : Seen → List ℕ → List Finding
-noted (Seen.Field f) buffer =
+abbrev pub noted : Option Field → List ℕ → List Finding
+noted (Some f) buffer =
     record { tag = f.tag; size = f.length; found = f.found; body = pick (keeps f.tag f.length) (take f.length buffer) [] } ∷ []
-noted Seen.More buffer = []
+noted None buffer = []
 
 -- at most n calls on the rest of a piece
 unfoldable pub on_piece : ℕ → Place → List ℕ → List ℕ → Ran

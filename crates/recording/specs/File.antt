@@ -1,11 +1,10 @@
 -- A recording as a whole list of bytes (docs/RULES.md, "Recordings"): fields one after another, each a tag (1 byte), a length
 -- (2, big-endian) and a body; what a field is found to be; what is answered at the end.
-use Rattle.std.specs.Prelude.{ℕ, zero, suc, ◌+◌, ◌*◌, min, Bool, ◌&&◌, ◌||◌, List, [], ◌∷◌, map, length, take, drop, get_or, ltb, leb, eqb}
+use Rattle.std.specs.Prelude.{ℕ, zero, suc, ◌+◌, ◌*◌, min, Bool, ◌&&◌, ◌||◌, List, [], ◌∷◌, map, length, take, drop, get_or, ltb, leb, eqb, Result, Ok, Err, ⊤}
 use Rattle.codec.specs.Choice.{pick}
-use Rattle.codec.specs.Number.{word_at}
-use Rattle.codec.specs.Refusal.{number_of}
 use Rattle.codec.specs.declared.time.Time.{Time}
-use Rattle.reader.specs.Frame.{judge_of, open_judged}
+use Rattle.reader.specs.Frame.{judge_of, resolved, time_at}
+use Rattle.recording.specs.declared.error.RecordError.{RecordError}
 use Rattle.recording.specs.declared.field.Found.{Found}
 
 -- a complete field
@@ -41,27 +40,27 @@ unfoldable pub left_of : List ℕ → List ℕ
 left_of s = along (λ rest. rest) (λ f rest. rest) (length s) s
 
 -- tag 1, a mirror frame: 41 over 1,472 bytes, else the reader's verdict
-unfoldable pub frame_found : ℕ → List ℕ → Found
-frame_found n body = pick (ltb 1472 n) (Found.Refused 41) (open_judged (judge_of body) Found.Frame (λ why. Found.Refused (number_of why)))
+unfoldable pub frame_found : ℕ → List ℕ → Result Found RecordError
+frame_found n body = pick (ltb 1472 n) (Err RecordError.Long) (resolved (judge_of body) (λ h. Ok (Found.Frame h)) (λ why. Err (RecordError.Frame why)))
 
 -- tag 2, a text note: 41 over 1,472 bytes; any bytes are a note
-unfoldable pub note_found : ℕ → Found
-note_found n = pick (ltb 1472 n) (Found.Refused 41) Found.Note
+unfoldable pub note_found : ℕ → Result Found RecordError
+note_found n = pick (ltb 1472 n) (Err RecordError.Long) (Ok Found.Note)
 
 -- tag 3, a microphone's start: seconds (6) and nanoseconds (4), as in a frame's header
-unfoldable pub start_in : List ℕ → Time
-start_in body = record { sec = word_at 6 body 0; nano = word_at 4 body 6 }
+abbrev pub start_in : List ℕ → Time
+start_in body = time_at body 0
 
 -- 42 where the body is not 10 bytes, or its nanoseconds are over 999,999,999
-unfoldable pub start_found : ℕ → List ℕ → Found
-start_found n body = pick (eqb n 10 && leb (start_in body).nano 999999999) (Found.Start (start_in body)) (Found.Refused 42)
+unfoldable pub start_found : ℕ → List ℕ → Result Found RecordError
+start_found n body = pick (eqb n 10 && leb (start_in body).nano 999999999) (Ok (Found.Start (start_in body))) (Err RecordError.Start)
 
 -- a field of n bytes after its tag and length, judged by itself; other tags are skipped, whatever their length
-unfoldable pub verdict : ℕ → ℕ → List ℕ → Found
+unfoldable pub verdict : ℕ → ℕ → List ℕ → Result Found RecordError
 verdict tag n body =
     pick (eqb tag 1) (frame_found n body)
     (pick (eqb tag 2) (note_found n)
-    (pick (eqb tag 3) (start_found n body) Found.Skipped))
+    (pick (eqb tag 3) (start_found n body) (Ok Found.Skipped)))
 
 -- the lengths at which a verdict depends on the body, or the body is text
 unfoldable pub keeps : ℕ → ℕ → Bool
@@ -71,7 +70,7 @@ keeps tag n = eqb tag 1 && leb n 1472 || eqb tag 2 && leb n 1472 || eqb tag 3 &&
 pub record Finding : Type 0 where
   pub tag : ℕ
   pub size : ℕ
-  pub found : Found
+  pub found : Result Found RecordError
   pub body : List ℕ
 
 abbrev pub finding : ℕ → ℕ → List ℕ → Finding
@@ -85,25 +84,25 @@ unfoldable pub findings_of : List ℕ → List Finding
 findings_of s = map finding_of (fields_of s)
 
 -- how many were skipped
-abbrev pub skip_bit : Found → ℕ
-skip_bit (Found.Frame h) = 0
-skip_bit Found.Note = 0
-skip_bit (Found.Start t) = 0
-skip_bit (Found.Refused answer) = 0
-skip_bit Found.Skipped = 1
+abbrev pub skip_bit : Result Found RecordError → ℕ
+skip_bit (Ok (Found.Frame h)) = 0
+skip_bit (Ok Found.Note) = 0
+skip_bit (Ok (Found.Start t)) = 0
+skip_bit (Ok Found.Skipped) = 1
+skip_bit (Err why) = 0
 
 abbrev pub skips : List Finding → ℕ
 skips [] = 0
 skips (f ∷ fs) = skip_bit f.found + skips fs
 
--- 0 where nothing is left after the complete fields, else 40
-abbrev pub end_of : ℕ → ℕ
-end_of rest = pick (eqb rest 0) 0 40
+-- nothing is left after the complete fields, or 40
+abbrev pub end_of : ℕ → Result ⊤ RecordError
+end_of rest = pick (eqb rest 0) (Ok tt) (Err RecordError.Cut)
 
 -- all that is told of a file: the findings, then the answer, and the count of skipped fields, which stops at 4,294,967,295
 pub record Listing : Type 0 where
   pub findings : List Finding
-  pub answer : ℕ
+  pub answer : Result ⊤ RecordError
   pub skipped : ℕ
 
 unfoldable pub listing_of : List ℕ → Listing

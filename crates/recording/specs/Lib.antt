@@ -1,3 +1,5 @@
+pub mod Error
+pub mod Tag
 pub mod File
 pub mod Write
 pub mod Pieces

@@ -1,12 +1,12 @@
 -- One call on the rest of a piece: it goes as far as the end of one field or of the piece.
-use Rattle.std.specs.Prelude.{ℕ, ◌+◌, ◌-◌, ◌*◌, min, ◌&&◌, List, length, take, drop, get_or, ltb}
+use Rattle.std.specs.Prelude.{ℕ, ◌+◌, ◌-◌, ◌*◌, min, ◌&&◌, List, length, take, drop, get_or, ltb, Some, None, Result, ⊤}
 use Rattle.codec.specs.Choice.{pick}
 use Rattle.codec.specs.Number.{over, fits}
 use Rattle.codec.specs.Field.{bytes_at}
 use Rattle.recording.specs.File.{verdict, keeps, skip_bit, end_of}
+use Rattle.recording.specs.declared.error.RecordError.{RecordError}
 use Rattle.recording.specs.declared.field.Found.{Found}
 use Rattle.recording.specs.declared.pieces.Place.{Place}
-use Rattle.recording.specs.declared.pieces.Seen.{Seen}
 use Rattle.recording.specs.declared.pieces.Step.{Step}
 
 -- between two fields
@@ -54,11 +54,11 @@ buffer_of p buffer piece =
     (over buffer (p.past - 3) (part_of p piece)) buffer
 
 -- a skipped field is counted, up to 4,294,967,295
-abbrev pub counted : Found → ℕ → ℕ
+abbrev pub counted : Result Found RecordError → ℕ → ℕ
 counted found n = min (n + skip_bit found) 4294967295
 
 -- the field's verdict, where it is complete: its body is the front of the buffer
-unfoldable pub found_of : Place → List ℕ → Found
+unfoldable pub found_of : Place → List ℕ → Result Found RecordError
 found_of p buffer = verdict p.tag (length_of p) (bytes_at buffer 0 (length_of p))
 
 -- n bytes further, short of the field's end
@@ -66,15 +66,15 @@ abbrev pub moved_of : Place → ℕ → Place
 moved_of p n = record { past = p.past + n; tag = p.tag; high = p.high; low = p.low; skipped = p.skipped }
 
 -- with the buffer as the call leaves it
-abbrev pub done_of : Place → ℕ → Found → Step
+abbrev pub done_of : Place → ℕ → Result Found RecordError → Step
 done_of p n found = record {
   place = fresh (counted found p.skipped);
   used = n;
-  seen = Seen.Field (record { tag = p.tag; length = length_of p; found = found });
+  seen = Some (record { tag = p.tag; length = length_of p; found = found });
 }
 
 abbrev pub more_of : Place → ℕ → Step
-more_of p n = record { place = moved_of p n; used = n; seen = Seen.More }
+more_of p n = record { place = moved_of p n; used = n; seen = None }
 
 unfoldable pub ends_of : Place → ℕ → List ℕ → Step
 ends_of p n buffer = pick (ltb (p.past + n) (size_of p)) (more_of p n) (done_of p n (found_of p buffer))
@@ -90,5 +90,5 @@ unfoldable pub kept_of : Place → List ℕ → List ℕ → List ℕ
 kept_of p buffer piece = buffer_of (place_of p piece) buffer piece
 
 -- the end of the input
-unfoldable pub finish_of : Place → ℕ
+unfoldable pub finish_of : Place → Result ⊤ RecordError
 finish_of p = end_of (sound_of p).past

@@ -1,9 +1,10 @@
 // A recording handed over in pieces cut anywhere. What is kept from call to call is a place, and in a lent
 // buffer the body of the field under way, where its verdict needs it.
-ghost use Rattle.std.specs.Prelude.{◌≡◌, ◌+◌, ◌-◌, min};
+ghost use Rattle.std.specs.Prelude.{◌≡◌};
 ghost use Rattle.codec.specs.Number.{Below};
 ghost use Rattle.recording.specs.Pieces.{fresh, length_of, size_of, sound_of, head_byte, headed_of, used_of, part_of, buffer_of, found_of, counted, done_of, ends_of, next_of, kept_of, finish_of};
 
+use crate::error::RecordError;
 use crate::field::{Field, Found};
 
 // Where reading stands: how many bytes of the field under way were read, tag and length among them; those
@@ -17,18 +18,12 @@ pub struct Place {
     pub skipped: u32,
 }
 
-#[derive(Drop)]
-pub enum Seen {
-    Field(Field),
-    More,
-}
-
-// How much of the piece was used, and what was found: a field that is complete now, or the piece's end.
-#[derive(Drop)]
+// How much of the piece was used, and the field that is complete now, if the piece did not end before.
+#[derive(Clone, Copy)]
 pub struct Step {
     pub place: Place,
     pub used: usize,
-    pub seen: Seen,
+    pub seen: Option<Field>,
 }
 
 // Between two fields.
@@ -54,7 +49,7 @@ pub fn begin() -> Place
 fn length_of(p: Place) -> u16
     ensures { result ≡ length_of p }
 {
-    p.high as u16 * 256 + p.low as u16
+    u16::from_be_bytes([p.high, p.low])
 }
 
 fn size_of(p: Place) -> usize
@@ -75,118 +70,81 @@ fn sound(p: Place) -> Place
 }
 
 // Byte k of tag and length: as it was read before, or from the piece.
+#[tactic(auto, using(crate::proofs::PlaceLaws::head_old, crate::proofs::PlaceLaws::head_got), unfolding(crate::specs::Pieces::head_byte))]
 fn head_byte(k: usize, past: usize, old: u8, piece: &[u8]) -> u8
     ensures { result ≡ head_byte k past old piece.now }
 {
     if k < past {
         return old;
     }
-    let i = k - past;
-    if piece.len() <= i {
-        return old;
-    }
-    piece[i]
+    piece.get(k - past).copied().unwrap_or(old)
 }
 
 #[tactic(auto, unfolding(crate::specs::Pieces::headed_of))]
 fn headed(p: Place, piece: &[u8]) -> Place
     ensures { result ≡ headed_of p piece.now }
 {
-    let past = p.past;
     Place {
-        past,
-        tag: head_byte(0, past, p.tag, piece),
-        high: head_byte(1, past, p.high, piece),
-        low: head_byte(2, past, p.low, piece),
-        skipped: p.skipped,
+        tag: head_byte(0, p.past, p.tag, piece),
+        high: head_byte(1, p.past, p.high, piece),
+        low: head_byte(2, p.past, p.low, piece),
+        ..p
     }
 }
 
 // How many of n bytes belong to the field under way.
+#[tactic(auto, unfolding(crate::specs::Pieces::used_of))]
 fn used(p: Place, n: usize) -> usize
     ensures { result ≡ used_of p n }
 {
-    let size = size_of(p);
-    let past = p.past;
-    if size <= past {
-        return 0;
-    }
-    let more = size - past;
-    if n < more { n } else { more }
-}
-
-// How much of tag and length is not yet read, and how much of the body is.
-fn head_left(past: usize) -> usize
-    ensures { result ≡ 3 - past }
-{
-    if past < 3 { 3 - past } else { 0 }
-}
-
-fn body_read(past: usize) -> usize
-    ensures { result ≡ past - 3 }
-{
-    if past < 3 { 0 } else { past - 3 }
+    n.min(size_of(p).saturating_sub(p.past))
 }
 
 // The bytes of the piece that belong to the body of the field under way.
+#[tactic(auto, using(crate::proofs::PlaceLaws::used_most))]
 fn part(p: Place, piece: &[u8]) -> &[u8]
     ensures { result.now ≡ part_of p piece.now }
 {
     let n = used(p, piece.len());
-    let head = head_left(p.past);
-    if n <= head {
-        return &piece[..0];
-    }
-    &piece[head..n]
+    let head = 3usize.saturating_sub(p.past);
+    &piece[head.min(n)..n]
 }
 
 // They go after those that were kept before.
+#[tactic(auto, using(crate::proofs::PlaceLaws::not_kept))]
 fn keep(p: Place, buffer: &mut [u8], piece: &[u8])
     ensures { buffer.new ≡ buffer_of p buffer.old piece.now }
 {
     if crate::field::kept(p.tag, length_of(p)) {
-        codec::number::put_bytes(buffer, body_read(p.past), part(p, piece));
+        codec::number::put_bytes(buffer, p.past.saturating_sub(3), part(p, piece));
     }
 }
 
 #[tactic(auto, unfolding(crate::specs::Pieces::found_of))]
-fn found(p: Place, buffer: &[u8]) -> Found
+fn found(p: Place, buffer: &[u8]) -> Result<Found, RecordError>
     ensures { result ≡ found_of p buffer.now }
 {
     let n = length_of(p);
     crate::field::judge(p.tag, n, codec::field::part_at(buffer, 0, n as usize))
 }
 
-// A count of fields with one more, which stops at 4,294,967,295.
-pub fn one_more(skipped: u32) -> u32
-    ensures { result ≡ min (skipped + 1) 4294967295 }
-{
-    if skipped < 4294967295 {
-        skipped + 1
-    } else {
-        4294967295
-    }
-}
-
-fn count(found: Found, skipped: u32) -> u32
+// The count of skipped fields stops at 4,294,967,295.
+fn count(found: Result<Found, RecordError>, skipped: u32) -> u32
     ensures { result ≡ counted found skipped }
 {
     match found {
-        Found::Frame(_) => skipped,
-        Found::Note => skipped,
-        Found::Start(_) => skipped,
-        Found::Refused(_) => skipped,
-        Found::Skipped => one_more(skipped),
+        Ok(Found::Skipped) => skipped.saturating_add(1),
+        _ => skipped,
     }
 }
 
-fn done(p: Place, n: usize, found: Found) -> Step
+fn done(p: Place, n: usize, found: Result<Found, RecordError>) -> Step
     ensures { result ≡ done_of p n found }
 {
     Step {
         place: between(count(found, p.skipped)),
         used: n,
-        seen: Seen::Field(Field {
+        seen: Some(Field {
             tag: p.tag,
             length: length_of(p),
             found,
@@ -194,27 +152,20 @@ fn done(p: Place, n: usize, found: Found) -> Step
     }
 }
 
+#[tactic(auto, using(crate::proofs::PlaceLaws::ends_more, crate::proofs::PlaceLaws::ends_done))]
 fn ends(p: Place, n: usize, buffer: &[u8]) -> Step
     ensures { result ≡ ends_of p n buffer.now }
 {
-    let size = size_of(p);
-    let past = p.past;
-    if size <= past {
-        return done(p, n, found(p, buffer));
-    }
-    if size - past <= n {
+    if size_of(p).saturating_sub(p.past) <= n {
         return done(p, n, found(p, buffer));
     }
     Step {
         place: Place {
-            past: past + n,
-            tag: p.tag,
-            high: p.high,
-            low: p.low,
-            skipped: p.skipped,
+            past: p.past + n,
+            ..p
         },
         used: n,
-        seen: Seen::More,
+        seen: None,
     }
 }
 
@@ -241,14 +192,17 @@ pub fn next(place: Place, buffer: &mut [u8; 1472], piece: &[u8]) -> Step
 pub fn inside(place: Place) -> usize
     ensures { result ≡ (sound_of place).past }
 {
-    let p = sound(place);
-    p.past
+    sound(place).past
 }
 
-// The answer at the end of the input: 0, or 40 inside a field.
-pub fn finish(place: Place) -> u8
+// At the end of the input: it must not be inside a field.
+#[tactic(auto, using(crate::proofs::PlaceLaws::finish_none, crate::proofs::PlaceLaws::finish_inside))]
+pub fn finish(place: Place) -> Result<(), RecordError>
     ensures { result ≡ finish_of place }
 {
-    let p = sound(place);
-    if p.past == 0 { 0 } else { 40 }
+    if inside(place) == 0 {
+        Ok(())
+    } else {
+        Err(RecordError::Cut)
+    }
 }

@@ -1,59 +1,47 @@
 // Writes a field into a lent output at an index: the whole of it, or nothing.
-ghost use Rattle.std.specs.Prelude.{◌≡◌, length};
+ghost use Rattle.std.specs.Prelude.{◌≡◌, length, Ok};
+ghost use Rattle.recording.specs.Tag.{tag_number};
 ghost use Rattle.recording.specs.Write.{Recorded, field_bytes, frame_answer, note_answer, start_answer, start_bytes};
 
+use crate::error::RecordError;
+use crate::tag::Tag;
 use codec::time::Time;
 
-// Where the field ends, or why it was not written.
-#[derive(Drop)]
-pub enum Written {
-    Next(usize),
-    Refused(u8),
-}
-
-fn put_field(out: &mut [u8], at: usize, tag: u8, body: &[u8]) -> Written
-    ensures { Recorded 0 out.old at (field_bytes tag body.now) out.new result }
+// The index past the field, or why it was not written.
+fn put_field(out: &mut [u8], at: usize, tag: Tag, body: &[u8]) -> Result<usize, RecordError>
+    ensures { Recorded (Ok tt) out.old at (field_bytes (tag_number tag) body.now) out.new result }
 {
-    let n = body.len();
-    let room = out.len();
-    if room < 3 {
-        return Written::Refused(12);
+    // a sum that is cut here is past any output
+    let end = at.saturating_add(3 + body.len());
+    if out.len() < end {
+        return Err(RecordError::Small);
     }
-    if room - 3 < n {
-        return Written::Refused(12);
-    }
-    if room - 3 - n < at {
-        return Written::Refused(12);
-    }
-    out[at] = tag;
-    let a = at + 1;
-    codec::number::put_be(out, a, n as u64, 2);
-    let b = a + 2;
-    codec::number::put_bytes(out, b, body);
-    Written::Next(b + n)
+    out[at] = u8::from(tag);
+    codec::number::put_be(out, at + 1, body.len() as u64, 2);
+    codec::number::put_bytes(out, at + 3, body);
+    Ok(end)
 }
 
 // A frame that the reader refuses is not recorded, so that a recording lists clean.
-pub fn frame(out: &mut [u8], at: usize, body: &[u8]) -> Written
+#[tactic(auto, using(crate::proofs::WriteLaws::not_recorded, crate::proofs::WriteLaws::recorded_as, crate::proofs::WriteLaws::frame_over, crate::proofs::WriteLaws::frame_judged, crate::proofs::WriteLaws::frame_refused))]
+pub fn frame(out: &mut [u8], at: usize, body: &[u8]) -> Result<usize, RecordError>
     ensures { Recorded (frame_answer body.now) out.old at (field_bytes 1 body.now) out.new result }
 {
     if 1472 < body.len() {
-        return Written::Refused(41);
+        return Err(RecordError::Long);
     }
-    let answer = reader::judged_number(reader::judge(body));
-    if answer != 0 {
-        return Written::Refused(answer);
-    }
-    put_field(out, at, 1, body)
+    reader::judge(body)?;
+    put_field(out, at, Tag::Frame, body)
 }
 
-pub fn note(out: &mut [u8], at: usize, body: &[u8]) -> Written
+#[tactic(auto, using(crate::proofs::WriteLaws::not_recorded, crate::proofs::WriteLaws::recorded_as, crate::proofs::WriteLaws::note_over, crate::proofs::WriteLaws::note_fits))]
+pub fn note(out: &mut [u8], at: usize, body: &[u8]) -> Result<usize, RecordError>
     ensures { Recorded (note_answer body.now) out.old at (field_bytes 2 body.now) out.new result }
 {
     if 1472 < body.len() {
-        return Written::Refused(41);
+        return Err(RecordError::Long);
     }
-    put_field(out, at, 2, body)
+    put_field(out, at, Tag::Note, body)
 }
 
 fn lay_start(body: &mut [u8], t: Time)
@@ -65,13 +53,14 @@ fn lay_start(body: &mut [u8], t: Time)
 }
 
 // A microphone's start.
-pub fn start(out: &mut [u8], at: usize, t: Time) -> Written
+#[tactic(auto, using(crate::proofs::WriteLaws::not_recorded, crate::proofs::WriteLaws::recorded_as, crate::proofs::WriteLaws::start_out, crate::proofs::WriteLaws::start_in_range))]
+pub fn start(out: &mut [u8], at: usize, t: Time) -> Result<usize, RecordError>
     ensures { Recorded (start_answer t) out.old at (field_bytes 3 (start_bytes t)) out.new result }
 {
     if !codec::time::in_range(t) {
-        return Written::Refused(42);
+        return Err(RecordError::Start);
     }
     let mut body = [0u8; 10];
     lay_start(&mut body, t);
-    put_field(out, at, 3, &body)
+    put_field(out, at, Tag::Start, &body)
 }

@@ -7,11 +7,11 @@ use native.Mathlib.Omega.{arith}
 use lib.Dec.{leb, ltb}
 use lib.IntN.{ℤ, pos, negsuc, nat_abs, ◌-ℤ◌}
 use borrow.Author.Tests.{lt-ltb, le-ltb, le-leb, lt-leb, ltb-true, ltb-false, leb-true, leb-false}
-use Rattle.codec.specs.Time.{ns}
+use Rattle.std.specs.Prelude.{Result, Ok, Err}
 use Rattle.codec.specs.declared.time.Time.{Time}
 use Rattle.codec.proofs.Opened.{never}
 use Rattle.tape.specs.Sample.{apart_of, sample_of, Plays, SameOrNext, begins_of, within_day, placed_of, position_of}
-use Rattle.tape.specs.declared.sample.Placed.{Placed}
+use Rattle.tape.specs.declared.sample.TooFar.{TooFar}
 use Rattle.tape.proofs.SampleLaws.{sample_after, sample_before, plays, the_one, begins}
 
 -- a difference, at each sign
@@ -23,52 +23,22 @@ pub apart_before : (s t : ℕ) → t < s → pos t -ℤ pos s ≡ negsuc (s - su
 apart_before zero t h = never (omega arith)
 apart_before (suc m) t h = simp (lt-ltb t (suc m) h)
 
--- only the difference counts
-pub shift : (x y s t : ℕ) → s + y ≡ t + x → pos y -ℤ pos x ≡ pos t -ℤ pos s
-shift x y s t h = go (ltb y x) refl
-  where
-    go : (b : Bool) → ltb y x ≡ b → pos y -ℤ pos x ≡ pos t -ℤ pos s
-    go true e =
-        let k : y < x = ltb-true y x e in
-        let d : x - suc y ≡ s - suc t = omega arith in
-        rw (apart_before x y k, apart_before s t (omega arith)) (ap negsuc d)
-    go false e =
-        let k : x ≤ y = ltb-false y x e in
-        let d : y - x ≡ t - s = omega arith in
-        rw (apart_after x y k, apart_after s t (omega arith)) (ap pos d)
-
--- so both may be counted from the earlier of their seconds
-pub from_start : (start time : Time) → start.sec ≤ time.sec
-    → placed_of (pos ((time.sec - start.sec) * 1000000000 + time.nano) -ℤ pos start.nano) ≡ position_of start time
-from_start start time h = ap placed_of (shift start.nano ((time.sec - start.sec) * 1000000000 + time.nano) (ns start) (ns time) (omega arith))
-
-pub from_time : (start time : Time) → time.sec ≤ start.sec
-    → placed_of (pos time.nano -ℤ pos ((start.sec - time.sec) * 1000000000 + start.nano)) ≡ position_of start time
-from_time start time h = ap placed_of (shift ((start.sec - time.sec) * 1000000000 + start.nano) time.nano (ns start) (ns time) (omega arith))
-
 -- what is answered: the sample within 24 hours, and else 61
-pub near : (d : ℤ) → nat_abs d ≤ 86400000000000 → placed_of d ≡ Placed.Sample (sample_of d)
+pub near : (d : ℤ) → nat_abs d ≤ 86400000000000 → placed_of d ≡ Ok (sample_of d)
 unfolding placed_of
 near d h = rw (le-leb (nat_abs d) 86400000000000 h)
 
-pub far : (d : ℤ) → 86400000000000 < nat_abs d → placed_of d ≡ Placed.Refused 61
+pub far : (d : ℤ) → 86400000000000 < nat_abs d → placed_of d ≡ Err record {}
 unfolding placed_of
 far d h = rw (lt-leb (nat_abs d) 86400000000000 h)
 
--- how far apart they are
-pub size_after : (s t : ℕ) → s ≤ t → nat_abs (pos t -ℤ pos s) ≡ t - s
-size_after s t h = rw (apart_after s t h)
-
-pub size_before : (s t : ℕ) → t < s → nat_abs (pos t -ℤ pos s) ≡ s - t
-size_before s t h = rw (apart_before s t h) (omega arith)
-
 -- and nothing else: what is told is the one sample that plays
-abbrev number : Placed → ℤ
-number (Placed.Sample p) = p
-number (Placed.Refused answer) = pos answer
+abbrev number : Result ℤ TooFar → ℤ
+number (Ok p) = p
+number (Err why) = pos 61
 
 module _ (start time : Time) where
-  pub tells : (p : ℤ) → position_of start time ≡ Placed.Sample p → (p ≡ sample_of (apart_of start time)) × (nat_abs (apart_of start time) ≤ 86400000000000)
+  pub tells : (p : ℤ) → position_of start time ≡ Ok p → (p ≡ sample_of (apart_of start time)) × (nat_abs (apart_of start time) ≤ 86400000000000)
   tells p h = go (within_day (apart_of start time)) refl
     where
       go : (b : Bool) → within_day (apart_of start time) ≡ b → (p ≡ sample_of (apart_of start time)) × (nat_abs (apart_of start time) ≤ 86400000000000)
@@ -77,15 +47,15 @@ module _ (start time : Time) where
           (ap number (sym h ∙ near (apart_of start time) k), k)
       go false e = never (cc (h, far (apart_of start time) (leb-false (nat_abs (apart_of start time)) 86400000000000 e)))
 
-  pub playing : (p : ℤ) → position_of start time ≡ Placed.Sample p → Plays p (apart_of start time)
+  pub playing : (p : ℤ) → position_of start time ≡ Ok p → Plays p (apart_of start time)
   playing p h = rw (tells p h).0 (plays (apart_of start time))
 
-  pub answers : (p : ℤ) → Plays p (apart_of start time) → nat_abs (apart_of start time) ≤ 86400000000000 → position_of start time ≡ Placed.Sample p
-  answers p h k = near (apart_of start time) k ∙ ap Placed.Sample (sym (the_one p (apart_of start time) h))
+  pub answers : (p : ℤ) → Plays p (apart_of start time) → nat_abs (apart_of start time) ≤ 86400000000000 → position_of start time ≡ Ok p
+  answers p h k = near (apart_of start time) k ∙ ap Ok (sym (the_one p (apart_of start time) h))
 
 -- a time at which a sample begins
-pub own_time : (start time : Time) (n : ℤ) → apart_of start time ≡ begins_of n → nat_abs (begins_of n) ≤ 86400000000000 → position_of start time ≡ Placed.Sample n
-own_time start time n e h = rw e (near (begins_of n) h ∙ ap Placed.Sample (begins n))
+pub own_time : (start time : Time) (n : ℤ) → apart_of start time ≡ begins_of n → nat_abs (begins_of n) ≤ 86400000000000 → position_of start time ≡ Ok n
+own_time start time n e h = rw e (near (begins_of n) h ∙ ap Ok (begins n))
 
 -- a number and the same or the next
 same_or_suc : (p q : ℕ) → p ≤ q → q ≤ suc p → (q ≡ p) ⊎ (q ≡ suc p)

@@ -3,11 +3,9 @@ use Prim.Native.Nat.{ℕ, zero, suc, ◌+◌, ◌-◌, ◌*◌, ◌/◌, ◌≤�
 use mathlib.Core.Path.{◌≡◌, refl, ◌∙◌, ap}
 use native.Mathlib.Omega.{arith}
 use lib.Dec.{leb→le, le→leb, ltb→lt, lt→ltb}
-use lib.IntN.{ℤ, pos, negsuc, suc_ℤ, pred_ℤ, neg_ℤ, nat_abs, ◌-ℤ◌, ◌*ℤ◌}
+use lib.IntN.{ℤ, pos, negsuc, suc_ℤ, pred_ℤ, neg_ℤ, ◌*ℤ◌}
+use Rattle.std.specs.Int.{int_div_euclid}
 use lib.Signed.{shr_z, ◌≤ℤ◌, ◌<ℤ◌}
-use mir.Syntax.{w64}
-use mir.Val.{to_z, of_z}
-use mir.Facts.{to_z_pos, to_z-of_z}
 use Rattle.codec.proofs.Opened.{never}
 use Rattle.tape.specs.Sample.{sample_of, begins_of, Plays}
 
@@ -31,17 +29,13 @@ unfolding sample_of
 sample_before a = ap (λ (z : ℤ). shr_z z 125000) (by_six a)
 
 -- the same, as the code computes it
-pub minus_one : (k : ℕ) → negsuc zero -ℤ pos k ≡ negsuc k
-minus_one zero = refl
-minus_one (suc k) = let e : suc (zero + k) ≡ suc k = omega arith in ap negsuc e
-
-pub as_signed : (n : ℕ) → n < 9223372036854775808 → to_z w64 n ≡ pos n
-as_signed n h = to_z_pos w64 h
-
--- within 24 hours its number fits 64 bits
-pub stored : (d : ℤ) → nat_abs d ≤ 86400000000000 → to_z w64 (of_z w64 (sample_of d)) ≡ sample_of d
-stored (pos a) h = to_z-of_z {w = w64} (rw (sample_after a) (record { sfits = omega arith }))
-stored (negsuc a) h = to_z-of_z {w = w64} (rw (sample_before a) (record { sfits = omega arith }))
+pub by_euclid : (d z : ℤ) → z ≡ d *ℤ pos 6 → int_div_euclid z (pos 125000) ≡ sample_of d
+unfolding sample_of
+by_euclid (pos a) z e = rw e (let k : a * 6 ≡ 6 * a = omega arith in ap (λ (n : ℕ). pos (n / 125000)) k)
+by_euclid (negsuc a) z e =
+    let h : suc a * 6 ≡ suc (6 * a + 5) = omega arith in
+    let f : z ≡ negsuc (6 * a + 5) = e ∙ ap (λ (x : ℕ). neg_ℤ (pos x)) h in
+    rw (f, by_six a) refl
 
 -- the orders of two numbers of one sign, from those of their sizes
 le_after : {a b : ℕ} → a ≤ b → pos a ≤ℤ pos b

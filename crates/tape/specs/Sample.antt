@@ -1,12 +1,12 @@
 -- Where on the tape of a microphone a time lies (docs/RULES.md, "Where on the tape"). Numbers with a sign are the library's: pos n is
 -- n, negsuc n is -(n + 1); suc_ℤ z is z + 1, nat_abs z is z without its sign.
-use Rattle.std.specs.Prelude.{ℕ, ◌≡◌, Bool, ◌⊎◌, leb, ℤ, pos, neg_ℤ, nat_abs, ◌-ℤ◌, ◌*ℤ◌, ◌≤ℤ◌, ◌<ℤ◌}
+use Rattle.std.specs.Prelude.{ℕ, ◌≡◌, Bool, ◌⊎◌, leb, Result, Ok, Err, ℤ, pos, neg_ℤ, nat_abs, ◌-ℤ◌, ◌*ℤ◌, ◌≤ℤ◌, ◌<ℤ◌}
 use Rattle.std.proofs.Math.IntN.{suc_ℤ}
 use Rattle.std.specs.Int.Signed.{shr_z}
 use Rattle.codec.specs.Choice.{pick}
 use Rattle.codec.specs.Time.{ns}
 use Rattle.codec.specs.declared.time.Time.{Time}
-use Rattle.tape.specs.declared.sample.Placed.{Placed}
+use Rattle.tape.specs.declared.sample.TooFar.{TooFar}
 
 -- a number divided, rounded towards minus infinity (shr_z takes a to a / n and -(a + 1) to -(a / n + 1)), and up
 abbrev pub down_by : ℕ → ℤ → ℤ
@@ -41,8 +41,11 @@ abbrev pub within_day : ℤ → Bool
 within_day d = leb (nat_abs d) 86400000000000
 
 -- 61 where it is more
-unfoldable pub placed_of : ℤ → Placed
-placed_of d = pick (within_day d) (Placed.Sample (sample_of d)) (Placed.Refused 61)
+abbrev pub number_of : TooFar → ℕ
+number_of why = 61
 
-abbrev pub position_of : Time → Time → Placed
+unfoldable pub placed_of : ℤ → Result ℤ TooFar
+placed_of d = pick (within_day d) (Ok (sample_of d)) (Err record {})
+
+abbrev pub position_of : Time → Time → Result ℤ TooFar
 position_of start time = placed_of (apart_of start time)

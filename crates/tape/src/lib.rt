@@ -4,5 +4,5 @@
 mod microphone;
 mod sample;
 
-pub use microphone::{Microphone, after};
-pub use sample::{Placed, position};
+pub use microphone::after;
+pub use sample::{TooFar, position};

@@ -3,24 +3,15 @@ ghost use Rattle.std.specs.Prelude.{◌≡◌};
 ghost use Rattle.tape.specs.Start.{after_of};
 
 use codec::time::Time;
+use recording::error::RecordError;
 use recording::field::Found;
 
-// Silent before the first good start.
-#[derive(Clone, Copy)]
-pub enum Microphone {
-    Silent,
-    Since(Time),
-}
-
-// A refused start leaves the earlier one in force.
-pub fn after(microphone: Microphone, found: Found) -> Microphone
-    ensures { result ≡ after_of microphone found }
+// There is none before the first good start. A refused start leaves the earlier one in force.
+pub fn after(start: Option<Time>, found: Result<Found, RecordError>) -> Option<Time>
+    ensures { result ≡ after_of start found }
 {
     match found {
-        Found::Frame(_) => microphone,
-        Found::Note => microphone,
-        Found::Start(time) => Microphone::Since(time),
-        Found::Refused(_) => microphone,
-        Found::Skipped => microphone,
+        Ok(Found::Start(time)) => Some(time),
+        _ => start,
     }
 }

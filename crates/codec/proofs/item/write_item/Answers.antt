@@ -7,11 +7,9 @@ use Rattle.codec.proofs.item.write_item.Goals as goal
 pub overflow_cast-n : goal.overflow_cast-n
 overflow_cast-n c = omega (arith, ok_short _ _ (sym c.item_ok.ensures ∙ c.if-not-item_ok.false))
 
-pub returns-then-out-size : goal.returns-then-out-size
-returns-then-out-size c = full (omega (arith, encode-length c.args.item c.args.payload.now))
-
-pub returns-then-out-size-2 : goal.returns-then-out-size-2
-returns-then-out-size-2 c = full (omega (arith, encode-length c.args.item c.args.payload.now))
+pub returns-in_err-get_part : goal.returns-in_err-get_part
+returns-in_err-get_part c =
+    rw c.from_residual.ensures (full (omega (arith, encode-length c.args.item c.args.payload.now, c.in_err-get_part.ensures.room)))
 
 pub lay_ident-d-requires-clause-ident_value : goal.lay_ident-d-requires-clause-ident_value
 lay_ident-d-requires-clause-ident_value c = ok_ident _ _ (sym c.item_ok.ensures ∙ c.if-not-item_ok.false)
@@ -22,8 +20,9 @@ lay_load-e-requires-clause-payload_len_bound c =
 
 pub returns : goal.returns
 returns c =
+    let r = c.in_ok-get_part.ensures.room in
     let n : c.args.at + length (encode c.args.item c.args.payload.now) ≤ length c.args.out.now =
-    omega (arith, encode-length c.args.item c.args.payload.now) in
+    omega (arith, encode-length c.args.item c.args.payload.now, r.0, r.1) in
     from_laid (sym c.item_ok.ensures ∙ c.if-not-item_ok.false) n
     (item_laid _ c.args.item c.args.payload.now c.lay_front-a.ensures c.lay_state-b.ensures c.lay_ident-d.ensures c.lay_load-e.ensures
     c.flags_of-flags.ensures n)

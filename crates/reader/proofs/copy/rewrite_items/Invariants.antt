@@ -1,9 +1,6 @@
-use Rattle.std.proofs.Common.{length, ◌-◌}
+use Rattle.std.proofs.Common.{◌≡◌}
 use Rattle.reader.proofs.FrameLaws.{Left}
 use Rattle.reader.proofs.copy.rewrite_items.Given as goal
 
-abbrev pub invariant-loop-at : goal.invariant-loop-at
-invariant-loop-at l = Left l.frame l.first l.initial.out l.out l.at
-
-abbrev pub decreases-loop-at : goal.decreases-loop-at
-decreases-loop-at l = length l.frame - l.at
+abbrev pub invariant-loop-read : goal.invariant-loop-read
+invariant-loop-read l = (l.read-iterator.frame.now ≡ l.frame) × Left l.frame l.initial.out l.out l.read-iterator.place

@@ -1,21 +1,30 @@
-use Rattle.std.proofs.Common.{◌∙◌, sym, arith}
-use Rattle.codec.proofs.Inverse.{read_room}
-use Rattle.reader.proofs.AlongLaws.{starts-bad, starts_here, starts_there, starts_last}
+use Rattle.std.proofs.Common.{◌∙◌, sym, ap}
+use Rattle.reader.specs.Frame.{starts_of}
+use Rattle.reader.proofs.AlongLaws.{starts_end, starts_here, starts_there, starts-bad}
+use Rattle.reader.proofs.ItemsLaws.{gave_item, gave_refusal, gave_none}
 use Rattle.reader.proofs.place.starts.Goals as goal
 
 pub returns-in_default : goal.returns-in_default
-returns-in_default c = sym (c.loop-at.invariant.1 ∙ starts-bad _ _ _ c.loop-at-test.true (sym c.in_default.ensures))
+returns-in_default c =
+    let i = c.loop-read.invariant in
+    let g = gave_refusal (rw (i.0, c.in_default.is) at c.in-Some.ensures.steps.1) in
+    sym (i.1 ∙ starts-bad _ _ _ g.inside g.read)
 
-pub returns-then-at-place : goal.returns-then-at-place
-returns-then-at-place c = sym (c.loop-at.invariant.1 ∙ starts_here _ _ _ c.loop-at-test.true c.if-at-place.true (sym c.in-Got.ensures))
+pub returns-then-here-place : goal.returns-then-here-place
+returns-then-here-place c =
+    let i = c.loop-read.invariant in
+    let g = gave_item (rw (i.0, c.in-Ok.is) at c.in-Some.ensures.steps.1) in
+    sym (i.1 ∙ starts_here _ _ _ g.inside (sym g.here ∙ c.if-here-place.true) g.read)
 
-pub loop-at-smaller : goal.loop-at-smaller
-loop-at-smaller c = let r = read_room _ _ (sym c.in-Got.ensures) in omega arith
-
-pub loop-at-preserved : goal.loop-at-preserved
-loop-at-preserved c =
-    let q = sym c.in-Got.ensures in
-    ((read_room _ _ q).1, c.loop-at.invariant.1 ∙ starts_there _ _ _ c.loop-at-test.true c.if-at-place.false q)
+pub loop-read-preserved : goal.loop-read-preserved
+loop-read-preserved c =
+    let i = c.loop-read.invariant in
+    let g = gave_item (rw (i.0, c.in-Ok.is) at c.in-Some.ensures.steps.1) in (
+      c.in-Some.ensures.steps.0 ∙ i.0,
+      i.1 ∙ starts_there _ _ _ g.inside (λ z. c.if-here-place.false (g.here ∙ z)) g.read ∙ ap (starts_of c.args.frame.now c.args.place) (sym g.on),
+    )
 
 pub returns : goal.returns
-returns c = sym (c.loop-at.invariant.1 ∙ starts_last _ _ _ (omega arith))
+returns c =
+    let i = c.loop-read.invariant in
+    sym (i.1 ∙ starts_end _ _ _ (gave_none (rw i.0 at c.in-None.ensures.steps.1)))

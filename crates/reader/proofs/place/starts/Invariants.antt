@@ -1,9 +1,7 @@
-use Rattle.std.proofs.Common.{length, ◌-◌, ◌≡◌, ◌≤◌}
+use Rattle.std.proofs.Common.{◌≡◌}
 use Rattle.reader.specs.Frame.{starts_of}
 use Rattle.reader.proofs.place.starts.Given as goal
 
-abbrev pub invariant-loop-at : goal.invariant-loop-at
-invariant-loop-at l = (l.at ≤ length l.frame) × (starts_of l.frame l.place l.first ≡ starts_of l.frame l.place l.at)
-
-abbrev pub decreases-loop-at : goal.decreases-loop-at
-decreases-loop-at l = length l.frame - l.at
+abbrev pub invariant-loop-read : goal.invariant-loop-read
+invariant-loop-read l =
+    (l.read-iterator.frame.now ≡ l.frame) × (starts_of l.frame l.place 14 ≡ starts_of l.frame l.place l.read-iterator.place)
