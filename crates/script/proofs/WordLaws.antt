@@ -11,7 +11,7 @@ use Rattle.codec.proofs.BoolLaws.{and_r}
 use Rattle.codec.proofs.Opened.{chosen, passed, never}
 use Rattle.text.specs.Digit.{all_below}
 use Rattle.text.specs.Number.{number_of, digits_of, rest_of, hexed, value}
-use Rattle.std.specs.Prelude.{Option, Some, None}
+use Rattle.std.specs.Prelude.{Some, None}
 
 rest_most : (base most : ℕ) (cs : List ℕ) (n : ℕ) → rest_of base most 0 cs ≡ Some n → n ≤ most
 unfolding rest_of

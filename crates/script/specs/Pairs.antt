@@ -1,8 +1,7 @@
 -- The sources of a setup line.
-use Rattle.std.specs.Prelude.{ℕ, suc, ◌+◌, ◌≡◌, Bool, true, false, List, [], ◌∷◌, Option, Some, None, length, take, drop, set, ltb}
+use Rattle.std.specs.Prelude.{ℕ, ◌≡◌, Bool, true, false, List, [], ◌∷◌, Option, Some, None, length, take}
 use Rattle.std.proofs.lemmas.List.Edits.{sets}
 use Rattle.codec.specs.Choice.{pick, opened}
-use Rattle.text.specs.Line.{ahead}
 use Rattle.script.specs.Word.{narrow_of}
 
 -- every word is a number

@@ -1,6 +1,5 @@
 -- The words of a line as numbers of their widths.
 use Rattle.std.specs.Prelude.{ℕ, Bool, List, Option, Some, None, eqb}
-use Rattle.codec.specs.declared.time.Time.{Time}
 use Rattle.text.specs.Line.{word_of}
 use Rattle.text.specs.Number.{number_of}
 use Rattle.script.specs.declared.word.Stamp.{Stamp}

@@ -35,8 +35,14 @@ pub adds_as : {a b x y : List ℕ} → Adds a x b → x ≡ y → Adds a y b
 adds_as {a} {b} p e = rw e at p
 
 -- a text that fits, and nothing before it, stands whole
-pub adds_all : {x d : List ℕ} → Adds [] x d → length x ≤ 256 → d ≡ x
-adds_all {x} p h = p.is ∙ take_all 256 x h
+pub adds_all : {z x d : List ℕ} → z ≡ [] → Adds z x d → length x ≤ 256 → d ≡ x
+adds_all {z} {x} e p h = p.is ∙ ap (λ (y : List ℕ). take 256 (y ++ x)) e ∙ take_all 256 x h
+
+-- and is what is written
+pub draft_wrote : {z x d s l l' : List ℕ} {at : ℕ} {r : Option ℕ} → z ≡ [] → Adds z x d → length x ≤ 256 → s ≡ d → Wrote true l at s l' r → Wrote true l at x l' r
+draft_wrote e p h q w =
+    let k = q ∙ adds_all e p h in
+    rw k at w
 
 -- the bytes of a push
 pub pushed : (b : List ℕ) (n : ℕ) (s : List ℕ) {old part l' : List ℕ} {r : Option ℕ} → length b ≡ 256 → n ≤ 256 → take n b ≡ old → part ≡ take (256 - n) s

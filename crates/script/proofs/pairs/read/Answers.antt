@@ -1,10 +1,8 @@
-use Rattle.std.proofs.Common.{rules, tests, ◌≡◌, ◌+◌, ◌<◌, eqb, length, get_or, refl, sym, ◌∙◌, arith}
-use Rattle.std.specs.Prelude.{drop}
+use Rattle.std.proofs.Common.{rules, tests, eqb}
 use Rattle.std.proofs.lemmas.List.{length_push}
 use Rattle.std.proofs.lemmas.Iterator.Adapters.{YieldsList-from_skip}
 use Rattle.std.proofs.lemmas.Iterator.Consumers.{YieldsList-at}
 use Rattle.std.proofs.lemmas.Iterator.Splits.{YieldsList-from_slice_split}
-use Rattle.text.specs.Line.{split}
 use Rattle.script.proofs.PairsLaws.{turn, over, gathering_first, gathering_bad, gathering_kept, gathering_past, gathering_end}
 use Rattle.script.proofs.pairs.read.Goals as goal
 
