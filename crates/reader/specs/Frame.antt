@@ -41,7 +41,7 @@ items_of s at =
 
 -- no refusal from a place on
 abbrev pub Clean : List ℕ → ℕ → Type 0
-Clean s at = walk_of s at ≡ (Ok tt)
+Clean s at = walk_of s at ≡ Ok tt
 
 -- the header first, then the items from place 14
 unfoldable pub judge_of : List ℕ → Result Header Refusal
