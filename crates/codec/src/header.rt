@@ -41,6 +41,7 @@ pub fn write_header(out: &mut [u8], at: usize, h: Header) -> Option<usize>
 }
 
 // 20 under 14 bytes, 21 version, 28 nanoseconds, 22 DataLength isn't the rest.
+#[tactic(auto, using(crate::proofs::NumberLaws::word_is), unfolding(crate::specs::Header::read_header))]
 pub fn read_header(s: &[u8]) -> Result<Header, Refusal>
     ensures { result ≡ read_header s.now }
 {

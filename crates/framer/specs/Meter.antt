@@ -8,7 +8,7 @@ use Rattle.codec.specs.declared.time.Ticks.{Ticks}
 use Rattle.codec.specs.declared.time.Millis.{Millis}
 use Rattle.codec.specs.declared.time.Nanos.{Nanos}
 use Rattle.codec.specs.declared.time.Elapsed.{Elapsed}
-use Rattle.codec.specs.declared.item.State.{State}
+use Rattle.std.specs.Prelude.{Option, Some, None}
 use Rattle.codec.specs.declared.item.Item.{Item}
 use Rattle.framer.specs.declared.offer.Offer.{Offer}
 use Rattle.framer.specs.declared.meter.Meter.{Meter}
@@ -57,25 +57,25 @@ empty_meter size room deadline = record {
 }
 
 -- the time since the header fits an offset
-abbrev pub is_within : Elapsed → Bool
-is_within (Elapsed.Ticks t) = true
+abbrev pub is_within : Elapsed Ticks → Bool
+is_within (Elapsed.Within t) = true
 is_within Elapsed.TooFar = false
 is_within (Elapsed.Backwards n) = false
 
-abbrev pub ticks_in : Elapsed → Ticks
-ticks_in (Elapsed.Ticks t) = t
+abbrev pub ticks_in : Elapsed Ticks → Ticks
+ticks_in (Elapsed.Within t) = t
 ticks_in Elapsed.TooFar = record { 0 = 0 }
 ticks_in (Elapsed.Backwards n) = record { 0 = 0 }
 
 -- how far the clock is behind the header
-abbrev pub back_in : Elapsed → Nanos
-back_in (Elapsed.Ticks t) = record { 0 = 0 }
+abbrev pub back_in : Elapsed Ticks → Nanos
+back_in (Elapsed.Within t) = record { 0 = 0 }
 back_in Elapsed.TooFar = record { 0 = 0 }
 back_in (Elapsed.Backwards n) = n
 
 -- the state is shown where it is due or lost is pending, which sets bit 7 (rule 4)
-unfoldable pub state_shown : Bool → Offer → State
-state_shown lost o = pick lost (State.Byte (bit_or o.state 128)) (pick o.due (State.Byte o.state) State.Absent)
+unfoldable pub state_shown : Bool → Offer → Option ℕ
+state_shown lost o = pick lost (Some (bit_or o.state 128)) (pick o.due (Some o.state) None)
 
 unfoldable pub item_of : Bool → Ticks → Offer → Item
 item_of lost offset o =

@@ -4,7 +4,7 @@ ghost use Rattle.codec.specs.Number.{Below};
 ghost use Rattle.framer.specs.Meter.{sound_meter, limits_ok, empty_meter, is_within, ticks_in, back_in, state_shown, item_of, offset_for, back_for, closes_for, slot_of, counted, closed_meter, taken_meter, failed_meter};
 
 use crate::offer::Offer;
-use codec::item::{Item, State};
+use codec::item::Item;
 use codec::time::{Elapsed, Millis, Nanos, Ticks, Time};
 
 #[derive(Clone, Copy)]
@@ -73,48 +73,39 @@ pub(crate) fn empty_meter(size: usize, room: usize, deadline: Millis) -> Meter
     }
 }
 
-fn is_within(e: Elapsed) -> bool
+fn is_within(e: Elapsed<Ticks>) -> bool
     ensures { result ≡ is_within e }
 {
-    match e {
-        Elapsed::Ticks(_) => true,
-        Elapsed::TooFar => false,
-        Elapsed::Backwards(_) => false,
-    }
+    matches!(e, Elapsed::Within(_))
 }
 
-fn ticks_in(e: Elapsed) -> Ticks
+fn ticks_in(e: Elapsed<Ticks>) -> Ticks
     ensures { result ≡ ticks_in e }
 {
     match e {
-        Elapsed::Ticks(t) => t,
-        Elapsed::TooFar => Ticks(0),
-        Elapsed::Backwards(_) => Ticks(0),
+        Elapsed::Within(t) => t,
+        _ => Ticks(0),
     }
 }
 
-fn back_in(e: Elapsed) -> Nanos
+fn back_in(e: Elapsed<Ticks>) -> Nanos
     ensures { result ≡ back_in e }
 {
     match e {
-        Elapsed::Ticks(_) => Nanos(0),
-        Elapsed::TooFar => Nanos(0),
         Elapsed::Backwards(n) => n,
+        _ => Nanos(0),
     }
 }
 
 // The state byte is shown where it is due or something was lost, which sets its bit 7.
 #[tactic(auto, unfolding(crate::specs::Meter::state_shown))]
-fn state_shown(lost: bool, o: Offer) -> State
+fn state_shown(lost: bool, o: Offer) -> Option<u8>
     ensures { result ≡ state_shown lost o }
 {
     if lost {
-        return State::Byte(o.state | 128);
+        return Some(o.state | 128);
     }
-    if o.due {
-        return State::Byte(o.state);
-    }
-    State::Absent
+    o.due.then_some(o.state)
 }
 
 #[tactic(auto, unfolding(crate::specs::Meter::item_of))]

@@ -11,10 +11,14 @@ use Rattle.text.proofs.line.word.Reads as word
 use Rattle.text.proofs.part.front.Reads as front
 use Rattle.text.proofs.put.hex.Reads as hex
 use Rattle.text.proofs.put.decimal.Reads as decimal
+use Rattle.text.proofs.digit.written.Reads as written
 use Rattle.text.proofs.draft.Draft.new.Reads as new
 use Rattle.text.proofs.draft.Draft.push.Reads as push
-use Rattle.text.proofs.draft.Draft.number.Reads as draft-number
-use Rattle.text.proofs.draft.Draft.as_slice.Reads as as-slice
+use Rattle.text.proofs.draft.Draft.decimal.Reads as added
+use Rattle.text.proofs.draft.Draft.numbers.Reads as numbers
+use Rattle.text.proofs.draft.Draft.row.Reads as row
+use Rattle.text.proofs.draft.Draft.as_slice.Reads as as_slice
+use Rattle.text.proofs.draft.Draft.put.Reads as put
 
 pub value_unique : (κs : _) (a : _) (r r' : _) (x x' : _) → value.Post κs a r x → value.Post κs a r' x' → r ≡ r'
 value_unique κs a r r' x x' p q = p ∙ sym q
@@ -48,14 +52,28 @@ pub decimal_unique : (κs : _) (a : _) (r r' : _) (x x' : _) → decimal.Post κ
     → (r ≡ r') × (x.0.now ≡ x'.0.now)
 decimal_unique κs a r r' x x' p q = (p.answer ∙ sym q.answer, p.list ∙ sym q.list)
 
-pub new_unique : (κs : _) (a : _) (r r' : _) (x x' : _) → new.Post κs a r x → new.Post κs a r' x' → r ≡ r'
-new_unique κs a r r' x x' p q = p ∙ sym q
+pub written_unique : (κs : _) (a : _) (r r' : _) (x x' : _) → written.Post κs a r x → written.Post κs a r' x' → r ≡ r'
+written_unique κs a r r' x x' p q = p ∙ sym q
 
-pub push_unique : (κs : _) (a : _) (r r' : _) (x x' : _) → push.Post κs a r x → push.Post κs a r' x' → x.0.now ≡ x'.0.now
-push_unique κs a r r' x x' p q = p.is ∙ sym q.is
+-- drafts of every size
+module _ (n : _) (fits : _) where
+  pub new_unique : (κs : _) (a : _) (r r' : _) (x x' : _) → new.Post n fits κs a r x → new.Post n fits κs a r' x' → r ≡ r'
+  new_unique κs a r r' x x' p q = p ∙ sym q
 
-pub draft_number_unique : (κs : _) (a : _) (r r' : _) (x x' : _) → draft-number.Post κs a r x → draft-number.Post κs a r' x' → x.0.now ≡ x'.0.now
-draft_number_unique κs a r r' x x' p q = p.is ∙ sym q.is
+  pub row_unique : (κs : _) (a : _) (r r' : _) (x x' : _) → row.Post n fits κs a r x → row.Post n fits κs a r' x' → r ≡ r'
+  row_unique κs a r r' x x' p q = p ∙ sym q
 
-pub as_slice_unique : (κs : _) (a : _) (r r' : _) (x x' : _) → as-slice.Post κs a r x → as-slice.Post κs a r' x' → r.now ≡ r'.now
-as_slice_unique κs a r r' x x' p q = p ∙ sym q
+  pub push_unique : (κs : _) (a : _) (r r' : _) (x x' : _) → push.Post n fits κs a r x → push.Post n fits κs a r' x' → x.0.now ≡ x'.0.now
+  push_unique κs a r r' x x' p q = p ∙ sym q
+
+  pub added_unique : (κs : _) (a : _) (r r' : _) (x x' : _) → added.Post n fits κs a r x → added.Post n fits κs a r' x' → x.0.now ≡ x'.0.now
+  added_unique κs a r r' x x' p q = p ∙ sym q
+
+  pub numbers_unique : (κs : _) (a : _) (r r' : _) (x x' : _) → numbers.Post n fits κs a r x → numbers.Post n fits κs a r' x' → x.0.now ≡ x'.0.now
+  numbers_unique κs a r r' x x' p q = p ∙ sym q
+
+  pub as_slice_unique : (κs : _) (a : _) (r r' : _) (x x' : _) → as_slice.Post n fits κs a r x → as_slice.Post n fits κs a r' x' → r.now ≡ r'.now
+  as_slice_unique κs a r r' x x' p q = p ∙ sym q
+
+  pub put_unique : (κs : _) (a : _) (r r' : _) (x x' : _) → put.Post n fits κs a r x → put.Post n fits κs a r' x' → (r ≡ r') × (x.1.0.now ≡ x'.1.0.now)
+  put_unique κs a r r' x x' p q = (p.answer ∙ sym q.answer, p.list ∙ sym q.list)

@@ -1,15 +1,9 @@
 // Text written over a slice at an index.
 ghost use Rattle.std.specs.Prelude.{◌≡◌, ◌+◌, ◌*◌, ◌<◌, ◌≤◌, length, true};
 ghost use Rattle.codec.specs.Number.{over, Wrote};
-ghost use Rattle.text.specs.Put.{letter_of, hexes, hex_of, decimal_of, Ends};
+ghost use Rattle.text.specs.Put.{hexes, hex_of, decimal_of, Ends};
 
-#[tactic(auto, unfolding(crate::specs::Put::letter_of))]
-fn letter(v: u8) -> u8
-    requires { v < 16 }
-    ensures { result ≡ letter_of v }
-{
-    if v < 10 { v + 48 } else { v + 87 }
-}
+use crate::digit::{Case, written};
 
 fn lay_hex(out: &mut [u8], at: usize, src: &[u8])
     requires { at + 2 * length src.now ≤ length out.old }
@@ -17,8 +11,8 @@ fn lay_hex(out: &mut [u8], at: usize, src: &[u8])
 {
     for (i, b) in src.iter().enumerate() {
         let k = at + 2 * i;
-        out[k] = letter(*b >> 4);
-        out[k + 1] = letter(*b & 15);
+        out[k] = written(*b >> 4, Case::Lower);
+        out[k + 1] = written(*b, Case::Lower);
     }
 }
 
