@@ -45,7 +45,7 @@ pub fn ticks_of_nanos(n: Nanos) -> Elapsed<Ticks>
     }
 }
 
-// The conversions keep a name each, and no two kinds share one (the paper's form for kinds of number), so they are no From.
+// The conversions keep a name each, and no two kinds share one (docs/DECISIONS.md, "Forms that are asked for"), so they are no From.
 pub fn nanos_of_ticks(t: Ticks) -> Nanos
     ensures { Below (t.0 * 10000) 655350001 result.0 }
 {

@@ -1,14 +1,15 @@
 -- Demand 2 for frames as byte strings. Assumes nothing.
 use Prim.Native.Nat.{ℕ, zero, suc, ◌+◌, ◌≤◌, ◌<◌}
 use mathlib.Core.Path.{◌≡◌, refl, sym, ◌∙◌, ap}
-use mathlib.Core.Bool.{Bool, true, ◌||◌}
+use mathlib.Core.Bool.{Bool, true, false, ◌||◌}
 use mathlib.Core.List.{List, [], ◌∷◌, ◌++◌, append-nil}
 use native.Mathlib.Omega.{arith}
 use lib.ListN.{length, take, drop, length-append, take-append-drop}
 use lib.Dec.{eqb}
 use lib.Seq.{drop-length, drop-drop}
 use borrow.Author.Tests.{eq-eqb, ne_eqb}
-use Rattle.std.specs.Prelude.{Some, None, Result, Ok}
+use Rattle.std.specs.Prelude.{Option, Some, None, Result, Ok, Err}
+use Rattle.codec.specs.Choice.{pick, then}
 use Rattle.codec.specs.Number.{Bytes}
 use Rattle.codec.specs.Time.{recovered_of}
 use Rattle.codec.specs.Item.{encode}
@@ -27,7 +28,9 @@ use Rattle.codec.proofs.NumberLaws.{word_is}
 use Rattle.codec.proofs.HeaderLaws.{header_length}
 use Rattle.reader.proofs.AlongLaws.{walk_end, walk_item, items_end, items_item, starts_item, starts_here, starts_last}
 use Rattle.reader.proofs.FrameLaws.{accepted, all_along, laid_length, body-length}
-use Rattle.reader.specs.Frame.{walk_of, items_of, starts_of, Clean, judge_of, laid_out, step_of, held_of, payload_of, payload_at_of, item_at_of, time_at, time_in}
+use Rattle.reader.specs.declared.place.Stepped.{Stepped}
+use Rattle.codec.specs.declared.refusal.Refusal.{Refusal}
+use Rattle.reader.specs.Frame.{resolved, walk_of, items_of, starts_of, Clean, judge_of, laid_out, step_of, payload_of, payload_at_of, item_at_of, time_at, time_in}
 use Rattle.reader.specs.Listing.{stepping, listing, places_of, among, Framed}
 
 -- the bytes from a place on are the layout of the items read there, and each item is valid
@@ -153,8 +156,19 @@ module _ (s : List ℕ) (b : Bytes s) {h : Header} (j : judge_of s ≡ Ok h) whe
   step_at at e = simp (j, e)
 
   pub payload_is : (at : ℕ) → starts_of s at 14 ≡ true → payload_of s at ≡ payload_at_of s at
-  unfolding payload_of held_of
-  payload_is at e = simp (j, e)
+  unfolding payload_of item_at_of payload_at_of
+  payload_is at e = rw (step_at at e) (go (eqb at (length s)) (read_item s at))
+    where
+      found : Decoded → Result (Option Stepped) Refusal
+      found d = Ok (Some (record { next = d.next; time = recovered_of (time_in s) d.item.offset.0; item = d.item; length = d.len }))
+
+      load : Result Decoded Refusal → List ℕ
+      load r = resolved r (λ d. bytes_at s d.start d.len) (λ why. [])
+
+      go : (b : Bool) (r : Result Decoded Refusal) → resolved (pick b (Ok None) (then r found)) (λ x. load r) (λ why. []) ≡ load r
+      go true r = refl
+      go false (Ok d) = refl
+      go false (Err why) = refl
 
   end_at : (at : ℕ) → at ≡ length s → item_at_of s at ≡ (Ok None)
   unfolding item_at_of

@@ -70,12 +70,9 @@ payload_at_of s place = resolved (read_item s place) (λ d. bytes_at s d.start d
 unfoldable pub step_of : List ℕ → ℕ → Result (Option Stepped) Refusal
 step_of s place = then (judge_of s) (λ h. pick (starts_of s place 14) (item_at_of s place) (Err Refusal.Place))
 
-unfoldable pub held_of : List ℕ → ℕ → Bool
-held_of s place = resolved (judge_of s) (λ h. starts_of s place 14) (λ why. false)
-
 -- the end, an item without payload, or a refusal shows an empty part
 unfoldable pub payload_of : List ℕ → ℕ → List ℕ
-payload_of s place = pick (held_of s place) (payload_at_of s place) []
+payload_of s place = resolved (step_of s place) (λ found. payload_at_of s place) (λ why. [])
 
 -- the yielded header and items laid out again
 unfoldable pub laid_out : List ℕ → Header → List ℕ

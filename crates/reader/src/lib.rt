@@ -8,4 +8,5 @@ mod place;
 
 pub use copy::{RewriteError, rewrite};
 pub use frame::judge;
+pub use items::Items;
 pub use place::{Stepped, item_at, payload, payload_at, step, time_at};

@@ -1,6 +1,6 @@
 // One item at a place, and its payload as that very part of the caller's frame.
 ghost use Rattle.std.specs.Prelude.{◌≡◌};
-ghost use Rattle.reader.specs.Frame.{time_at, starts_of, held_of, item_at_of, payload_at_of, step_of, payload_of};
+ghost use Rattle.reader.specs.Frame.{time_at, starts_of, item_at_of, payload_at_of, step_of, payload_of};
 
 use crate::items::Items;
 use codec::item::Item;
@@ -81,21 +81,12 @@ pub fn step(frame: &[u8], place: usize) -> Result<Option<Stepped>, Refusal>
     }
 }
 
-// An accepted frame with an item or the end at the place.
-#[tactic(auto, unfolding(crate::specs::Frame::held_of))]
-fn held(frame: &[u8], place: usize) -> bool
-    ensures { result ≡ held_of frame.now place }
-{
-    crate::frame::judge(frame).is_ok() && starts(frame, place)
-}
-
 #[tactic(auto, unfolding(crate::specs::Frame::payload_of))]
 pub fn payload(frame: &[u8], place: usize) -> &[u8]
     ensures { result.now ≡ payload_of frame.now place }
 {
-    if held(frame, place) {
-        payload_at(frame, place)
-    } else {
-        &frame[..0]
+    match step(frame, place) {
+        Ok(_) => payload_at(frame, place),
+        Err(_) => &frame[..0],
     }
 }

@@ -74,8 +74,7 @@ pub fn kept(tag: u8, length: u16) -> bool
     ensures { result ≡ keeps tag length }
 {
     match Tag::try_from(tag) {
-        Ok(Tag::Frame) => length <= 1472,
-        Ok(Tag::Note) => length <= 1472,
+        Ok(Tag::Frame | Tag::Note) => length <= 1472,
         Ok(Tag::Start) => length == 10,
         Err(_) => false,
     }
