@@ -32,7 +32,7 @@ pub struct Place {
     pub filter: Filter,
 }
 
-// A filter to be added, and whether its numbers are in range.
+// A filter to be added, and whether its numbers are in range; no Result, since 2 and 4 go before that cause.
 #[derive(Clone, Copy)]
 pub struct Addition {
     pub source: u64,
@@ -117,7 +117,9 @@ pub(crate) fn key_passes(places: [Place; 8], key: u32) -> bool
 pub(crate) fn slot_passes(places: [Place; 8], slot: u16, cycle: u8) -> bool
     ensures { result ≡ passes places (Ident.FlexRay 0 slot cycle) }
 {
-    places.iter().any(|place| slot_matches(place.filter, slot, cycle))
+    places
+        .iter()
+        .any(|place| slot_matches(place.filter, slot, cycle))
 }
 
 // One filter's answer. A walk over places asks the functions above, since it knows the kind of id.

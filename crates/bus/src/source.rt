@@ -13,7 +13,8 @@ pub struct Source {
     pub kind: Kind,
     pub network: u8,
     pub started: bool,
-    // the current state byte without bit 7, and whether it is known
+    // the current state byte without bit 7, and whether it is known; no Option, since an item that tells a loss shows
+    // the byte also while it is not known
     pub state: u8,
     pub known: bool,
     // the state byte shown last
@@ -94,7 +95,9 @@ impl Source {
     pub fn free_place(self) -> Option<usize>
         ensures { result ≡ free_in self.places }
     {
-        self.places.iter().position(|place| crate::filter::is_free(place.filter))
+        self.places
+            .iter()
+            .position(|place| crate::filter::is_free(place.filter))
     }
 
     // 2, 4, 9, 10; else the place that a filter gets, which is its number.

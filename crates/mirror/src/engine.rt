@@ -44,7 +44,8 @@ pub fn fresh() -> Engine
     }
 }
 
-// The place of a source; a number past the eighth has none of its own and is refused by its cause.
+// The place of a source; a number past the eighth has none of its own and is refused by its cause. No Option, since 7 goes
+// before that cause.
 #[tactic(auto, unfolding(crate::specs::Engine::index_of))]
 pub(crate) fn index(source: u64) -> usize
     ensures { Below (index_of source) 8 result }
@@ -58,7 +59,10 @@ impl Engine {
     pub(crate) fn sound(self) -> Result<(), Cause>
         ensures { result ≡ cause_of self (Ok tt) }
     {
-        check((self.count <= 8) & framer::meter::sound(self.framer.meter), Cause::Unsound)
+        check(
+            (self.count <= 8) & framer::meter::sound(self.framer.meter),
+            Cause::Unsound,
+        )
     }
 
     #[tactic(auto, unfolding(crate::specs::Engine::cause_of, crate::specs::Engine::discards_of))]
