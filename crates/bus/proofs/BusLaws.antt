@@ -28,7 +28,6 @@ use Rattle.bus.specs.Source.{passes, free_at, free_in, add_cause}
 use Rattle.bus.specs.Report.{error_bits, error_report, too_big, report_cause}
 use Rattle.bus.specs.Update.{update_cause}
 use Rattle.bus.specs.declared.filter.Filter.{Filter}
-use Rattle.bus.specs.declared.filter.Place.{Place}
 use Rattle.bus.specs.declared.filter.Addition.{Addition}
 use Rattle.bus.specs.declared.source.Source.{Source}
 use Rattle.bus.specs.declared.report.Report.{Report}
@@ -39,19 +38,19 @@ pub length_mapped : {X Y : Type 0} (f : X → Y) (l : List X) (n : ℕ) → leng
 length_mapped f l n e = sym (length-map l f) ∙ e
 
 -- a walk over the places
-pub any_passes : (ps : List Place) (id : Ident) → list_any (λ (p : Place). matches p.filter id) ps ≡ passes ps id
+pub any_passes : (ps : List Filter) (id : Ident) → list_any (λ (p : Filter). matches p id) ps ≡ passes ps id
 any_passes [] id = refl
 any_passes (p ∷ ps) id = rw (any_passes ps id)
 
-pub position_free : (ps : List Place) → position_or_len (λ (p : Place). is_free p.filter) ps ≡ free_at ps
+pub position_free : (ps : List Filter) → position_or_len (λ (p : Filter). is_free p) ps ≡ free_at ps
 position_free [] = refl
-position_free (p ∷ ps) = rw (position_free ps) (go (is_free p.filter))
+position_free (p ∷ ps) = rw (position_free ps) (go (is_free p))
   where
     go : (b : Bool) → cond (not b) (1 + free_at ps) 0 ≡ pick b 0 (suc (free_at ps))
     go true = refl
     go false = omega arith
 
-pub free_found : (ps : List Place) (n : ℕ) → n ≡ position_or_len (λ (p : Place). is_free p.filter) ps → length ps ≡ 8
+pub free_found : (ps : List Filter) (n : ℕ) → n ≡ position_or_len (λ (p : Filter). is_free p) ps → length ps ≡ 8
     → cond (ltb n (length ps)) (Some n) None ≡ free_in ps
 unfolding free_in
 free_found ps n e h = rw (e, position_free ps, h) (go (ltb (free_at ps) 8))
@@ -61,13 +60,13 @@ free_found ps n e h = rw (e, position_free ps, h) (go (ltb (free_at ps) 8))
     go false = refl
 
 -- ids that each filter treats alike, and ids that none matches
-pub passes_alike : (ps : List Place) (a b : Ident) → ((f : Filter) → matches f a ≡ matches f b) → passes ps a ≡ passes ps b
+pub passes_alike : (ps : List Filter) (a b : Ident) → ((f : Filter) → matches f a ≡ matches f b) → passes ps a ≡ passes ps b
 passes_alike [] a b e = refl
-passes_alike (p ∷ ps) a b e = rw (e p.filter, passes_alike ps a b e)
+passes_alike (p ∷ ps) a b e = rw (e p, passes_alike ps a b e)
 
-pub passes_none : (ps : List Place) (id : Ident) → ((f : Filter) → matches f id ≡ false) → passes ps id ≡ false
+pub passes_none : (ps : List Filter) (id : Ident) → ((f : Filter) → matches f id ≡ false) → passes ps id ≡ false
 passes_none [] id e = refl
-passes_none (p ∷ ps) id e = rw (e p.filter, passes_none ps id e)
+passes_none (p ∷ ps) id e = rw (e p, passes_none ps id e)
 
 -- a flag in its place
 bit_small : (b : Bool) → bool_byte b < 2
@@ -181,9 +180,9 @@ add-passed count s a e =
     record { source = ltb-true a.source count z2.0; kind = z4.0; good = z9.0; room = ltb-true (free_at s.places) 8 z10.0 }
 
 -- the lowest free place is within the list, or just past it
-pub free_most : (ps : List Place) → free_at ps ≤ length ps
+pub free_most : (ps : List Filter) → free_at ps ≤ length ps
 free_most [] = omega arith
-free_most (p ∷ ps) = step (is_free p.filter) (free_at ps) (length ps) (free_most ps)
+free_most (p ∷ ps) = step (is_free p) (free_at ps) (length ps) (free_most ps)
   where
     step : (b : Bool) (x n : ℕ) → x ≤ n → pick b 0 (suc x) ≤ suc n
     step true x n h = omega arith

@@ -8,12 +8,8 @@ use Rattle.framer.specs.declared.cause.Cause.{Cause}
 use Rattle.framer.specs.declared.offer.Offer.{Offer}
 use Rattle.bus.specs.Filter.{matches, is_free, same_kind}
 use Rattle.bus.specs.declared.filter.Filter.{Filter}
-use Rattle.bus.specs.declared.filter.Place.{Place}
 use Rattle.bus.specs.declared.filter.Addition.{Addition}
 use Rattle.bus.specs.declared.source.Source.{Source}
-
-abbrev pub free_place : Place
-free_place = record { filter = Filter.Free }
 
 -- after setup: not started, no filters, the state byte 0, unknown and unshown
 unfoldable pub fresh_source : Kind → ℕ → Source
@@ -25,7 +21,7 @@ fresh_source kind network = record {
   known = false;
   shown = None;
   heard = false;
-  places = replicate 8 free_place;
+  places = replicate 8 Filter.Free;
 }
 
 -- offline and switch return to that
@@ -59,17 +55,17 @@ stopped_source s = record {
 }
 
 -- a report passes if at least one filter matches
-abbrev pub passes : List Place → Ident → Bool
+abbrev pub passes : List Filter → Ident → Bool
 passes [] id = false
-passes (p ∷ ps) id = matches p.filter id || passes ps id
+passes (p ∷ ps) id = matches p id || passes ps id
 
 -- the lowest free place, or how many places there are
-abbrev pub free_at : List Place → ℕ
+abbrev pub free_at : List Filter → ℕ
 free_at [] = 0
-free_at (p ∷ ps) = pick (is_free p.filter) 0 (suc (free_at ps))
+free_at (p ∷ ps) = pick (is_free p) 0 (suc (free_at ps))
 
 -- the lowest free place of eight
-unfoldable pub free_in : List Place → Option ℕ
+unfoldable pub free_in : List Filter → Option ℕ
 free_in ps = pick (ltb (free_at ps) 8) (Some (free_at ps)) None
 
 -- filter adding: 2, 4, 9, 10
@@ -82,7 +78,7 @@ add_cause count s a =
     (Ok tt))))
 
 -- the same source with other places
-abbrev pub with_places : Source → List Place → Source
+abbrev pub with_places : Source → List Filter → Source
 with_places s ps = record {
   kind = s.kind;
   network = s.network;
@@ -96,18 +92,18 @@ with_places s ps = record {
 
 -- adding uses the lowest free place
 unfoldable pub added_filter : Source → Filter → Source
-added_filter s f = pick (ltb (free_at s.places) 8) (with_places s (set s.places (free_at s.places) (record { filter = f }))) s
+added_filter s f = pick (ltb (free_at s.places) 8) (with_places s (set s.places (free_at s.places) f)) s
 
 -- removing: 11, no such filter
 unfoldable pub remove_cause : Source → ℕ → Result Unit Cause
 remove_cause s number =
     guard (ltb number 8) Cause.NoFilter
-    (guard (not (is_free (get_or s.places number free_place).filter)) Cause.NoFilter
+    (guard (not (is_free (get_or s.places number Filter.Free))) Cause.NoFilter
     (Ok tt))
 
 -- a removed place is free again
 unfoldable pub removed_filter : Source → ℕ → Source
-removed_filter s number = pick (ltb number 8) (with_places s (set s.places number free_place)) s
+removed_filter s number = pick (ltb number 8) (with_places s (set s.places number Filter.Free)) s
 
 -- the state is known, and was never shown or differs from the last shown (rules 4 and 6)
 abbrev pub is_byte : Option ℕ → ℕ → Bool

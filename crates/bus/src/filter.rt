@@ -6,6 +6,8 @@ ghost use Rattle.bus.specs.Filter.{keyed, slotted, matches, filtered, is_free, m
 
 use codec::ident::{Ident, Kind};
 
+// What stands in one of a source's eight places. A free place is a filter that matches nothing, and no Option: whoever asks
+// whether a filter matches, or adds one, may do so of a free one (`filter_matches`, `add_filter`).
 #[derive(Clone, Copy)]
 pub enum Filter {
     Free,
@@ -24,12 +26,6 @@ pub enum Filter {
         high_cycle: u8,
         repetition: u8,
     },
-}
-
-// One of a source's eight places.
-#[derive(Clone, Copy)]
-pub struct Place {
-    pub filter: Filter,
 }
 
 // A filter to be added, and whether its numbers are in range; no Result, since 2 and 4 go before that cause.
@@ -107,19 +103,19 @@ fn slot_matches(f: Filter, slot: u16, cycle: u8) -> bool
 }
 
 // Whether one of a source's places matches a key: that of a CAN id, or a LIN id's, which filters treat alike.
-pub(crate) fn key_passes(places: [Place; 8], key: u32) -> bool
+pub(crate) fn key_passes(places: [Filter; 8], key: u32) -> bool
     ensures { result ≡ passes places (Ident.Can key) }
 {
-    places.iter().any(|place| key_matches(place.filter, key))
+    places.iter().any(|filter| key_matches(*filter, key))
 }
 
 // Whether one of a source's places matches a slot and a cycle, on whatever channels.
-pub(crate) fn slot_passes(places: [Place; 8], slot: u16, cycle: u8) -> bool
+pub(crate) fn slot_passes(places: [Filter; 8], slot: u16, cycle: u8) -> bool
     ensures { result ≡ passes places (Ident.FlexRay 0 slot cycle) }
 {
     places
         .iter()
-        .any(|place| slot_matches(place.filter, slot, cycle))
+        .any(|filter| slot_matches(*filter, slot, cycle))
 }
 
 // One filter's answer. A walk over places asks the functions above, since it knows the kind of id.

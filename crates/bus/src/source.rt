@@ -3,7 +3,7 @@ ghost use Rattle.std.specs.Prelude.{◌≡◌};
 ghost use Rattle.framer.specs.Cause.{gives};
 ghost use Rattle.bus.specs.Source.{fresh_source, reset_source, started_source, stopped_source, passes, free_at, free_in, add_cause, added_filter, remove_cause, removed_filter, due, tick_due, state_offer, calmed};
 
-use crate::filter::{Addition, Filter, Place};
+use crate::filter::{Addition, Filter};
 use codec::ident::{Ident, Kind};
 use framer::cause::{Cause, check};
 use framer::offer::Offer;
@@ -21,16 +21,13 @@ pub struct Source {
     pub shown: Option<u8>,
     // a report was accepted since the last tick
     pub heard: bool,
-    pub places: [Place; 8],
+    pub places: [Filter; 8],
 }
 
 #[tactic(auto, unfolding(crate::specs::Source::fresh_source))]
 pub fn fresh(kind: Kind, network: u8) -> Source
     ensures { result ≡ fresh_source kind network }
 {
-    let place = Place {
-        filter: Filter::Free,
-    };
     Source {
         kind,
         network,
@@ -39,7 +36,7 @@ pub fn fresh(kind: Kind, network: u8) -> Source
         known: false,
         shown: None,
         heard: false,
-        places: [place; 8],
+        places: [Filter::Free; 8],
     }
 }
 
@@ -48,8 +45,7 @@ impl Source {
     pub fn reset(self) -> Source
         ensures { result ≡ reset_source self }
     {
-        let kind = self.kind;
-        fresh(kind, self.network)
+        fresh(self.kind, self.network)
     }
 
     #[tactic(auto, unfolding(crate::specs::Source::started_source))]
@@ -79,14 +75,11 @@ impl Source {
         let places = self.places;
         let key = match id {
             Ident::Can(key) => key,
-            Ident::Lin(pid) => (pid & 63) as u32,
-            Ident::FlexRay {
-                channels: _,
-                slot,
-                cycle,
-            } => return crate::filter::slot_passes(places, slot, cycle),
-            Ident::FlexRayError(_) => return false,
-            Ident::Bare(_) => return false,
+            Ident::Lin(pid) => u32::from(pid & 63),
+            Ident::FlexRay { slot, cycle, .. } => {
+                return crate::filter::slot_passes(places, slot, cycle);
+            }
+            Ident::FlexRayError(_) | Ident::Bare(_) => return false,
         };
         crate::filter::key_passes(places, key)
     }
@@ -97,7 +90,7 @@ impl Source {
     {
         self.places
             .iter()
-            .position(|place| crate::filter::is_free(place.filter))
+            .position(|filter| crate::filter::is_free(*filter))
     }
 
     // 2, 4, 9, 10; else the place that a filter gets, which is its number.
@@ -117,7 +110,7 @@ impl Source {
         ensures { result ≡ added_filter self filter }
     {
         if let Some(k) = self.free_place() {
-            self.places[k] = Place { filter };
+            self.places[k] = filter;
         }
         self
     }
@@ -128,9 +121,10 @@ impl Source {
         ensures { result ≡ remove_cause self number }
     {
         check(number < 8, Cause::NoFilter)?;
-        let place = self.places[number as usize];
-        let filter = place.filter;
-        check(!crate::filter::is_free(filter), Cause::NoFilter)
+        check(
+            !crate::filter::is_free(self.places[number as usize]),
+            Cause::NoFilter,
+        )
     }
 
     #[tactic(auto, unfolding(crate::specs::Source::removed_filter))]
@@ -138,9 +132,7 @@ impl Source {
         ensures { result ≡ removed_filter self number }
     {
         if number < 8 {
-            self.places[number as usize] = Place {
-                filter: Filter::Free,
-            };
+            self.places[number as usize] = Filter::Free;
         }
         self
     }
@@ -164,10 +156,9 @@ impl Source {
     pub fn state_offer(self) -> Offer
         ensures { result ≡ state_offer self }
     {
-        let kind = self.kind;
         Offer {
             network: self.network,
-            ident: Ident::Bare(kind),
+            ident: Ident::Bare(self.kind),
             carries: false,
             state: self.state,
             due: true,

@@ -20,8 +20,9 @@ use Rattle.framer.specs.Queue.{length_at}
 use Rattle.framer.specs.Framer.{ready_of, left_by, laid_by, take_of, out_of}
 use Rattle.framer.specs.declared.framer.Framer.{Framer}
 use Rattle.framer.proofs.FramerLaws.{sounds}
+use Rattle.bus.specs.declared.filter.Filter.{Filter}
 use Rattle.bus.specs.Filter.{same_kind, filtered, is_free}
-use Rattle.bus.specs.Source.{passes, free_at, free_place, add_cause, remove_cause}
+use Rattle.bus.specs.Source.{passes, free_at, add_cause, remove_cause}
 use Rattle.bus.specs.Report.{error_bits, error_report, report_cause, too_big}
 use Rattle.bus.specs.Update.{update_cause}
 use Rattle.bus.specs.declared.source.Source.{Source}
@@ -173,7 +174,7 @@ remove_below : (s : Source) (number : ℕ) → answer_of (remove_cause s number)
 unfolding remove_cause
 remove_below s number =
     below (ltb number 8) Cause.NoFilter _ (omega arith)
-    (last (not (is_free (get_or s.places number free_place).filter)) Cause.NoFilter (omega arith))
+    (last (not (is_free (get_or s.places number Filter.Free))) Cause.NoFilter (omega arith))
 
 source_below : (e : Engine) (source : ℕ) (rest : Result Unit Cause) → answer_of rest < 19 → answer_of (source_cause e source rest) < 19
 unfolding source_cause

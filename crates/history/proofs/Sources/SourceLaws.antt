@@ -13,7 +13,7 @@ use Rattle.codec.specs.declared.time.Time.{Time}
 use Rattle.codec.specs.declared.ident.Kind.{Kind}
 use Rattle.codec.proofs.BoolLaws.{and_l, and_r}
 use Rattle.bus.specs.Filter.{same_kind}
-use Rattle.bus.specs.Source.{fresh_source, started_source, stopped_source, free_at, free_place, with_places, added_filter, removed_filter, due, tick_due, state_offer, calmed}
+use Rattle.bus.specs.Source.{fresh_source, started_source, stopped_source, free_at, with_places, added_filter, removed_filter, due, tick_due, state_offer, calmed}
 use Rattle.bus.specs.Update.{counter_bits, can_byte, can_update, lin_update, flexray_update, updated}
 use Rattle.bus.specs.declared.source.Source.{Source}
 use Rattle.bus.specs.declared.update.Update.{Update}
@@ -131,7 +131,7 @@ pub removed_account : (s : Source) (number : ℕ) → account_of (removed_filter
 unfolding account_of removed_filter
 removed_account s number = go (ltb number 8)
   where
-    go : (b : Bool) → account_of (pick b (with_places s (set s.places number free_place)) s) ≡ account_of s
+    go : (b : Bool) → account_of (pick b (with_places s (set s.places number Filter.Free)) s) ≡ account_of s
     go true = refl
     go false = refl
 
