@@ -75,11 +75,12 @@ impl Source {
         let places = self.places;
         let key = match id {
             Ident::Can(key) => key,
-            Ident::Lin(pid) => u32::from(pid & 63),
+            Ident::Lin(pid) => (pid & 63) as u32,
             Ident::FlexRay { slot, cycle, .. } => {
                 return crate::filter::slot_passes(places, slot, cycle);
             }
-            Ident::FlexRayError(_) | Ident::Bare(_) => return false,
+            Ident::FlexRayError(_) => return false,
+            Ident::Bare(_) => return false,
         };
         crate::filter::key_passes(places, key)
     }
