@@ -7,10 +7,9 @@ use native.Mathlib.Omega.{arith}
 use lib.ListN.{length, length-append}
 use lib.Dec.{leb, eqb}
 use lib.Bits.{bit_and, bit_or, or_shifted, and_mask}
-use mir.Val.{bool_byte}
 use borrow.Author.Tests.{leb-true, eqb-true, eq-eqb, ne_eqb}
 use Rattle.codec.specs.Choice.{bit}
-use Rattle.codec.specs.Number.{be, Laid, Below}
+use Rattle.codec.specs.Number.{be, Laid}
 use Rattle.codec.specs.Ident.{kind_of, ident_bytes, ident_ok, most_of, can_fd, can_most, channels_ok, flexray_range}
 use Rattle.codec.specs.Item.{state_bytes, set_of, set_ok, set_for, state_ok, load_ok, load_bytes, load_length, flags_of, encode, item_ok, item_length}
 use Rattle.codec.specs.declared.ident.Ident.{Ident}
@@ -18,36 +17,10 @@ use Rattle.codec.specs.declared.item.Item.{Item}
 use Rattle.codec.proofs.BoolLaws.{and_l, and_r}
 use Rattle.codec.proofs.NumberLaws.{chain}
 
--- three flags in their places
-pub set_sum : (s i : ℕ) (c : Bool) → s < 2 → i < 2 → bit_or (bit_or (s * 2 ^ 2 % 2 ^ 8) (i * 2 ^ 1 % 2 ^ 8)) (bool_byte c) ≡ s * 4 + i * 2 + bit c
-set_sum s i c hs hi =
-    let p : s * 2 ^ 2 % 2 ^ 8 ≡ s * 2 ^ 2 = omega arith in
-    let q : i * 2 ^ 1 % 2 ^ 8 ≡ i * 2 ^ 1 = omega arith in
-    let t : bit_or (s * 2 ^ 2) (i * 2 ^ 1) ≡ (s * 2 + i) * 2 ^ 1 = or_shifted s 2 (i * 2 ^ 1) (omega arith) ∙ omega arith in
-    rw (p, q, t) (last c)
-  where
-    last : (b : Bool) → bit_or ((s * 2 + i) * 2 ^ 1) (bool_byte b) ≡ s * 4 + i * 2 + bit b
-    last true = or_shifted (s * 2 + i) 1 1 (omega arith) ∙ omega arith
-    last false = or_shifted (s * 2 + i) 1 0 (omega arith) ∙ omega arith
-
+-- three flags
 pub set_small : (s i : ℕ) (c : Bool) → s < 2 → i < 2 → s * 4 + i * 2 + bit c < 8
 set_small s i true hs hi = omega arith
 set_small s i false hs hi = omega arith
-
-pub set_made : {x y a b : ℕ} (c : Bool) → Below x 2 a → Below y 2 b → Below (x * 4 + y * 2 + bit c) 8 (bit_or (bit_or (a * 2 ^ 2 % 2 ^ 8) (b * 2 ^ 1 % 2 ^ 8)) (bool_byte c))
-set_made {x} {y} {a} {b} c p q = record {
-  is = set_sum a b c p.below q.below ∙ rw (p.is, q.is);
-  below = rw (set_sum a b c p.below q.below) (set_small a b c p.below q.below);
-}
-
--- the flag byte
-pub flag_sum : (set k : ℕ) → set < 8 → k < 4 → bit_or (set * 2 ^ 5 % 2 ^ 8) k ≡ set * 32 + k
-flag_sum set k hs hk =
-    let p : set * 2 ^ 5 % 2 ^ 8 ≡ set * 2 ^ 5 = omega arith in
-    rw p (or_shifted set 5 k (omega arith))
-
-pub flag_made : {x y a b : ℕ} → Below x 8 a → Below y 4 b → bit_or (a * 2 ^ 5 % 2 ^ 8) b ≡ x * 32 + y
-flag_made {x} {y} {a} {b} p q = flag_sum a b p.below q.below ∙ rw (p.is, q.is)
 
 -- bits 5, 4 and 3 of the first byte of a FlexRay id
 pub marked : (x : ℕ) → bit_and x 7 ≡ 1 → eqb (x % 8) 1 ≡ true
@@ -62,11 +35,6 @@ front_sum c s hc hs =
     let p : c * 2 ^ 6 % 2 ^ 8 ≡ c * 2 ^ 6 = omega arith in
     let q : bit_or (c * 2 ^ 6) 8 ≡ (c * 8 + 1) * 2 ^ 3 = or_shifted c 6 8 (omega arith) ∙ omega arith in
     rw (p, q) (or_shifted (c * 8 + 1) 3 (s / 2 ^ 8) (omega arith) ∙ omega arith)
-
-pub slot_sum : (f low : ℕ) → low < 256 → bit_or (bit_and f 7 * 2 ^ 8 % 2 ^ 16) low ≡ f % 8 * 256 + low
-slot_sum f low h =
-    let p : f % 8 * 2 ^ 8 % 2 ^ 16 ≡ f % 8 * 2 ^ 8 = omega arith in
-    rw (and_mask f 3, p) (or_shifted (f % 8) 8 low h)
 
 -- no payload is longer than 254
 pub most_small : (id : Ident) → most_of id ≤ 254

@@ -4,7 +4,6 @@ pub mod NumberLaws
 pub mod ItemLaws
 pub mod PidLaws
 pub mod HeaderLaws
-pub mod FieldLaws
 pub mod Stands
 pub mod RoundTrip
 pub mod Opened

@@ -270,6 +270,6 @@ module _ (e : Entry) (v : Valid e) where
       go : (id : Ident) → it.ident ≡ id → is_error id ≡ true → ErrorEntry e
       go (Ident.Can key) i z = never (ap bit z)
       go (Ident.Lin pid) i z = never (ap bit z)
-      go (Ident.FlexRay channels slot cycle) i z = never (ap bit z)
+      go (Ident.FlexRay _ _ _) i z = never (ap bit z)
       go (Ident.FlexRayError channels) i z = error_made channels i it.state refl it.carries refl
       go (Ident.Bare k) i z = never (ap bit z)

@@ -55,6 +55,10 @@ pub full : {fit : Bool} {l : List ℕ} {at : ℕ} {bs : List ℕ} → length l <
 full {fit = false} h = wide
 full {fit = true} h = record { list = miss _ _ _ _ h; answer = miss _ _ _ _ h }
 
+-- the answer where there is no room
+pub unwritten : {fit : Bool} {l : List ℕ} {at n : ℕ} {bs : List ℕ} {r : Option ℕ} → r ≡ None → length l < at + n → n ≡ length bs → Wrote fit l at bs l r
+unwritten e h k = rw e (full (omega arith))
+
 pub wrote : {l l' : List ℕ} {at : ℕ} {bs : List ℕ} → at + length bs ≤ length l → l' ≡ over l at bs → Wrote true l at bs l' (Some (at + length bs))
 wrote h g = record { list = hit _ _ _ _ _ h g; answer = hit _ _ _ _ _ h refl }
 

@@ -1,4 +1,6 @@
 // The fields of an item, read left to right: missing bytes before a wrong value, the first refusal straight up.
+// The lent bytes and an index go into each reader, and the index past what it read comes out: a cursor would hold both, and hide
+// the indices that `Decoded` hands on.
 ghost use Rattle.std.specs.Prelude.{◌≡◌};
 ghost use Rattle.codec.specs.Field.{read_flags, read_state, can_ident, lin_ident, frame_ident, error_ident, flexray_ident, read_can, read_lin, read_flexray, read_ident, read_load, read_item, bytes_at};
 

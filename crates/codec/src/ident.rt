@@ -57,8 +57,7 @@ pub fn kind_of(id: Ident) -> Kind
     match id {
         Ident::Can(_) => Kind::Can,
         Ident::Lin(_) => Kind::Lin,
-        Ident::FlexRay { .. } => Kind::FlexRay,
-        Ident::FlexRayError(_) => Kind::FlexRay,
+        Ident::FlexRay { .. } | Ident::FlexRayError(_) => Kind::FlexRay,
         Ident::Bare(k) => k,
     }
 }
@@ -140,7 +139,6 @@ pub fn most_of(id: Ident) -> usize
         Ident::Can(key) => can_most(can_fd(key)),
         Ident::Lin(_) => 8,
         Ident::FlexRay { .. } => 254,
-        Ident::FlexRayError(_) => 0,
-        Ident::Bare(_) => 0,
+        Ident::FlexRayError(_) | Ident::Bare(_) => 0,
     }
 }

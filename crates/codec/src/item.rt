@@ -15,35 +15,24 @@ pub struct Item {
     // the state byte that the item shows
     pub state: Option<u8>,
     pub ident: Ident,
+    // whether a payload is present, which may be empty; it stays beside the item (docs/DECISIONS.md, "Forms that are asked for")
     pub carries: bool,
-}
-
-fn state_bit(state: Option<u8>) -> u8
-    ensures { Below (state_bit state) 2 result }
-{
-    match state {
-        Some(_) => 1,
-        None => 0,
-    }
 }
 
 fn ident_bit(ident: Ident) -> u8
     ensures { Below (ident_bit ident) 2 result }
 {
     match ident {
-        Ident::Can(_) => 1,
-        Ident::Lin(_) => 1,
-        Ident::FlexRay { .. } => 1,
-        Ident::FlexRayError(_) => 1,
         Ident::Bare(_) => 0,
+        _ => 1,
     }
 }
 
-// Which of state, id and payload are present, as bits 2, 1 and 0.
+// Which of state, id and payload are present, as bits 2, 1 and 0: the wire's own bits, as `read_flags` gives them.
 fn set_of(state: Option<u8>, ident: Ident, carries: bool) -> u8
     ensures { Below (set_of state ident carries) 8 result }
 {
-    state_bit(state) << 2 | ident_bit(ident) << 1 | u8::from(carries)
+    u8::from(state.is_some()) << 2 | ident_bit(ident) << 1 | u8::from(carries)
 }
 
 pub fn set_ok(set: u8) -> bool
@@ -56,13 +45,9 @@ pub fn set_ok(set: u8) -> bool
 fn set_for(ident: Ident, set: u8) -> bool
     ensures { result ≡ set_for ident set }
 {
-    let known = set_ok(set);
     match ident {
-        Ident::Can(_) => known,
-        Ident::Lin(_) => known,
-        Ident::FlexRay { .. } => known,
         Ident::FlexRayError(_) => set == 6,
-        Ident::Bare(_) => known,
+        _ => set_ok(set),
     }
 }
 
@@ -78,9 +63,8 @@ fn shown_ok(kind: Kind, b: u8) -> bool
     ensures { result ≡ shown_ok kind b }
 {
     match kind {
-        Kind::Can => true,
         Kind::Lin => lin_zero(b),
-        Kind::FlexRay => true,
+        Kind::Can | Kind::FlexRay => true,
     }
 }
 
@@ -104,23 +88,11 @@ fn load_ok(carries: bool, most: usize, n: usize) -> bool
 pub fn item_ok(item: Item, n: usize) -> bool
     ensures { result ≡ item_ok item n }
 {
-    let state = item.state;
     let ident = item.ident;
-    let carries = item.carries;
-    let set = set_for(ident, set_of(state, ident, carries));
-    let bits = state_ok(crate::ident::kind_of(ident), state);
-    let id = crate::ident::ident_ok(ident);
-    let load = load_ok(carries, crate::ident::most_of(ident), n);
-    set & bits & id & load
-}
-
-fn state_len(state: Option<u8>) -> usize
-    ensures { Sized (state_bytes state) 1 result }
-{
-    match state {
-        Some(_) => 1,
-        None => 0,
-    }
+    let set = set_for(ident, set_of(item.state, ident, item.carries));
+    let bits = state_ok(crate::ident::kind_of(ident), item.state);
+    let load = load_ok(item.carries, crate::ident::most_of(ident), n);
+    set & bits & crate::ident::ident_ok(ident) & load
 }
 
 fn ident_len(ident: Ident) -> usize
@@ -129,8 +101,7 @@ fn ident_len(ident: Ident) -> usize
     match ident {
         Ident::Can(_) => 4,
         Ident::Lin(_) => 1,
-        Ident::FlexRay { .. } => 3,
-        Ident::FlexRayError(_) => 3,
+        Ident::FlexRay { .. } | Ident::FlexRayError(_) => 3,
         Ident::Bare(_) => 0,
     }
 }
@@ -145,20 +116,15 @@ fn load_len(carries: bool, n: u8) -> usize
 pub fn item_len(item: Item, n: u8) -> usize
     ensures { Below (item_length item n) 266 result }
 {
-    let state = item.state;
-    let ident = item.ident;
-    4 + state_len(state) + ident_len(ident) + load_len(item.carries, n)
+    4 + usize::from(item.state.is_some()) + ident_len(item.ident) + load_len(item.carries, n)
 }
 
 // State-present in bit 7, id-present in bit 6, payload-present in bit 5, network type in bits 4 to 0.
 fn flags_of(item: Item) -> u8
     ensures { result ≡ flags_of item }
 {
-    let state = item.state;
-    let ident = item.ident;
-    let set = set_of(state, ident, item.carries);
-    let kind = u8::from(crate::ident::kind_of(ident));
-    set << 5 | kind
+    let set = set_of(item.state, item.ident, item.carries);
+    set << 5 | u8::from(crate::ident::kind_of(item.ident))
 }
 
 fn lay_front(out: &mut [u8], at: usize, offset: u16, flags: u8, network: u8) -> usize
@@ -259,13 +225,9 @@ pub fn write_item(out: &mut [u8], at: usize, item: Item, payload: &[u8]) -> Opti
     }
     let size = item_len(item, n as u8);
     crate::number::get_part(out, at, size)?;
-    let state = item.state;
-    let ident = item.ident;
-    let offset = item.offset.0;
     let flags = flags_of(item);
-    let a = lay_front(out, at, offset, flags, item.network);
-    let b = lay_state(out, a, state);
-    let d = lay_ident(out, b, ident);
-    let e = lay_load(out, d, item.carries, payload);
-    Some(e)
+    let a = lay_front(out, at, item.offset.0, flags, item.network);
+    let b = lay_state(out, a, item.state);
+    let d = lay_ident(out, b, item.ident);
+    Some(lay_load(out, d, item.carries, payload))
 }

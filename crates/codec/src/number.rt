@@ -1,4 +1,5 @@
-// Big-endian numbers of any width, written over a slice at an index and read from one.
+// Big-endian numbers of any width, written over a slice at an index and read from one. The slice and the index stay apart:
+// what is written lies within a frame of the caller's, which a struct of both would have to borrow anew for each number.
 ghost use Rattle.std.specs.Prelude.{◌≡◌, true, ◌+◌, ◌≤◌, ◌<◌, ◌%◌, ◌^◌, length, IfSome, MatchOption};
 ghost use Rattle.codec.specs.Number.{Wrote, Word, be, val, word_at, get_of, part_of};
 
@@ -9,7 +10,7 @@ pub fn low8(x: u64) -> u8
 }
 
 // The n low bytes of v, from the last to the first: one function for every width.
-#[tactic(auto, using(crate::proofs::NumberLaws::down_first, crate::proofs::NumberLaws::down, crate::proofs::NumberLaws::down_last, crate::proofs::NumberLaws::full))]
+#[tactic(auto, using(crate::proofs::NumberLaws::down_first, crate::proofs::NumberLaws::down, crate::proofs::NumberLaws::down_last))]
 pub fn put_be(out: &mut [u8], at: usize, v: u64, n: usize) -> Option<usize>
     ensures { Wrote true out.old at (be n v) out.new result }
 {
@@ -23,7 +24,7 @@ pub fn put_be(out: &mut [u8], at: usize, v: u64, n: usize) -> Option<usize>
 }
 
 // Bytes as they are.
-#[tactic(auto, using(crate::proofs::NumberLaws::full, crate::proofs::NumberLaws::copied))]
+#[tactic(auto, using(crate::proofs::NumberLaws::copied))]
 pub fn put_bytes(out: &mut [u8], at: usize, src: &[u8]) -> Option<usize>
     ensures { Wrote true out.old at src.now out.new result }
 {

@@ -17,10 +17,8 @@ const CLOSED: u8 = 141;
 
 // The system's words alone: `io::Error` writes the number of the error after them.
 fn words(text: &str) -> &str {
-    match text.split_once(" (os error ") {
-        Some((words, _)) => words,
-        None => text,
-    }
+    text.split_once(" (os error ")
+        .map_or(text, |(words, _)| words)
 }
 
 // The room holds any text of an error: the library keeps at most 80 bytes of one, and the system has shorter ones.

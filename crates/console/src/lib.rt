@@ -16,13 +16,13 @@ pub fn write_all<W: Write>(to: &mut W, bytes: &[u8]) -> io::Result<()>
     ensures all { OnOk result (Appends (W.contents to.old) (W.contents to.new) bytes.now) }
     ensures front { OnErr result (AppendsFront (W.contents to.old) (W.contents to.new) bytes.now) }
 {
-    let mut done = 0;
-    while done < bytes.len() {
-        let n = to.write(&bytes[done..])?;
+    let mut rest = bytes;
+    while !rest.is_empty() {
+        let n = to.write(rest)?;
         if n == 0 {
             return Err(io::Error::from(ErrorKind::WriteZero));
         }
-        done += n;
+        rest = &rest[n..];
     }
     Ok(())
 }

@@ -12,22 +12,23 @@ use Rattle.recording.specs.File.{Finding, Listing, verdict, keeps, frame_found, 
 use Rattle.recording.specs.Pieces.{fresh, next_of, kept_of, ends_of, place_of, used_of, buffer_of, size_of, found_of, length_of}
 use Rattle.recording.specs.Calls.{noted, on_piece, on_pieces, join}
 use Rattle.recording.specs.declared.pieces.Place.{Place}
-use Rattle.recording.specs.declared.pieces.Seen.{Seen}
+use Rattle.recording.specs.declared.field.Field.{Field}
 use Rattle.recording.proofs.InPieces.{in-pieces}
 use Rattle.tape.specs.Start.{after_of, after_all}
-use Rattle.tape.specs.declared.microphone.Microphone.{Microphone}
+use Rattle.std.specs.Prelude.{Option, Some, None}
+use Rattle.codec.specs.declared.time.Time.{Time}
 use Rattle.listing.specs.Field.{found_lines}
 use Rattle.listed.specs.File.{lines_of, end_lines, listed_of, seen_lines, after_seen, piece_lines, pieces_lines, written_of}
 
 -- the lines of a field are those of its own bytes and of the start in force before it
-pub lines_split : (m : Microphone) (fs gs : List Finding) → lines_of m (fs ++ gs) ≡ lines_of m fs ++ lines_of (after_all m fs) gs
+pub lines_split : (m : Option Time) (fs gs : List Finding) → lines_of m (fs ++ gs) ≡ lines_of m fs ++ lines_of (after_all m fs) gs
 lines_split m [] gs = refl
 lines_split m (f ∷ fs) gs =
     ap (λ xs. found_lines m f.tag f.size f.found f.body ++ xs) (lines_split (after_of m f.found) fs gs)
     ∙ sym (append_assoc (found_lines m f.tag f.size f.found f.body) (lines_of (after_of m f.found) fs) (lines_of (after_all (after_of m f.found) fs) gs))
 
 -- a body that was not kept is not shown either
-shown_kept : (m : Microphone) (tag n : ℕ) (b x : List ℕ) → found_lines m tag n (verdict tag n b) (pick (keeps tag n) x []) ≡ found_lines m tag n (verdict tag n b) x
+shown_kept : (m : Option Time) (tag n : ℕ) (b x : List ℕ) → found_lines m tag n (verdict tag n b) (pick (keeps tag n) x []) ≡ found_lines m tag n (verdict tag n b) x
 unfolding verdict keeps frame_found note_found start_found
 shown_kept m tag n b x = go (eqb tag 1) refl (eqb tag 2) refl (eqb tag 3) refl (ltb 1472 n) refl
   where
@@ -46,7 +47,7 @@ shown_kept m tag n b x = go (eqb tag 1) refl (eqb tag 2) refl (eqb tag 3) refl (
     go false p false q false r l s = simp (p, q, r)
 
 -- so what a call saw is written as its finding is listed
-module _ (m : Microphone) (p : Place) (buffer piece : List ℕ) where
+module _ (m : Option Time) (p : Place) (buffer piece : List ℕ) where
   abbrev Same : Type 0
   Same = lines_of m (noted (next_of p buffer piece).seen (kept_of p buffer piece)) ≡ seen_lines m (next_of p buffer piece).seen (kept_of p buffer piece)
 
@@ -64,13 +65,13 @@ module _ (m : Microphone) (p : Place) (buffer piece : List ℕ) where
           (append-nil (found_lines m q.tag (length_of q) (verdict q.tag (length_of q) b) (pick (keeps q.tag (length_of q)) (take (length_of q) k) []))
           ∙ shown_kept m q.tag (length_of q) b (take (length_of q) k))
 
-after-seen : (m : Microphone) (s : Seen) (buffer : List ℕ) → after_all m (noted s buffer) ≡ after_seen m s
-after-seen m (Seen.Field f) buffer = refl
-after-seen m Seen.More buffer = refl
+after-seen : (m : Option Time) (s : Option Field) (buffer : List ℕ) → after_all m (noted s buffer) ≡ after_seen m s
+after-seen m (Some f) buffer = refl
+after-seen m None buffer = refl
 
 -- the calls on a piece, and on all pieces
 abbrev Lists : ℕ → Type 0
-Lists n = (m : Microphone) (p : Place) (buffer piece : List ℕ) → piece_lines n m p buffer piece ≡ lines_of m (on_piece n p buffer piece).findings
+Lists n = (m : Option Time) (p : Place) (buffer piece : List ℕ) → piece_lines n m p buffer piece ≡ lines_of m (on_piece n p buffer piece).findings
 
 piece_more : (n : ℕ) → Lists n → Lists (suc n)
 unfolding piece_lines on_piece
@@ -95,7 +96,7 @@ unfolding piece_lines on_piece
 piece-lines zero m p buffer piece = refl
 piece-lines (suc n) m p buffer piece = piece_more n (piece-lines n) m p buffer piece
 
-pieces-lines : (ts : List (List ℕ)) (m : Microphone) (p : Place) (buffer : List ℕ) → pieces_lines m p buffer ts ≡ lines_of m (on_pieces p buffer ts).findings
+pieces-lines : (ts : List (List ℕ)) (m : Option Time) (p : Place) (buffer : List ℕ) → pieces_lines m p buffer ts ≡ lines_of m (on_pieces p buffer ts).findings
 unfolding pieces_lines on_pieces
 pieces-lines [] m p buffer = refl
 pieces-lines (t ∷ ts) m p buffer =
@@ -110,5 +111,5 @@ pieces-lines (t ∷ ts) m p buffer =
 pub listed_in_pieces : (buffer : List ℕ) (ts : List (List ℕ)) → length buffer ≡ 1472 → written_of buffer ts ≡ listed_of (join ts)
 unfolding written_of listed_of
 listed_in_pieces buffer ts e =
-    rw (pieces-lines ts Microphone.Silent (fresh 0) buffer)
-    (ap (λ (l : Listing). lines_of Microphone.Silent l.findings ++ end_lines l) (in-pieces buffer ts e))
+    rw (pieces-lines ts None (fresh 0) buffer)
+    (ap (λ (l : Listing). lines_of None l.findings ++ end_lines l) (in-pieces buffer ts e))

@@ -4,7 +4,9 @@ use mathlib.Core.Path.{◌≡◌, refl, ◌∙◌, ap}
 use mathlib.Core.List.{List, [], ◌∷◌, ◌++◌}
 use Rattle.recording.specs.File.{Finding, Listing, findings_of, listing_of}
 use Rattle.recording.specs.declared.field.Found.{Found}
-use Rattle.tape.specs.declared.microphone.Microphone.{Microphone}
+use Rattle.std.specs.Prelude.{Option, Some, None, Result, Ok, Err}
+use Rattle.codec.specs.declared.time.Time.{Time}
+use Rattle.recording.specs.declared.error.RecordError.{RecordError}
 use Rattle.listing.specs.Line.{end_line}
 use Rattle.mending.specs.Copy.{copy_of, stayed}
 use Rattle.mending.proofs.CheckLaws.{list_of_copy}
@@ -13,21 +15,21 @@ use Rattle.listed.specs.Mended.{unrefused}
 
 -- a refused field changes no start in force, so that no line of another one moves
 abbrev Lists : List Finding → Type 0
-Lists fs = (m : Microphone) → lines_of m (stayed fs) ≡ unrefused m fs
+Lists fs = (m : Option Time) → lines_of m (stayed fs) ≡ unrefused m fs
 
-lists_more : (f : Finding) (fs : List Finding) (x : Found) → f.found ≡ x → Lists fs → Lists (f ∷ fs)
-lists_more f fs (Found.Frame h) e i m = simp (e, i m)
-lists_more f fs Found.Note e i m = simp (e, i m)
-lists_more f fs (Found.Start t) e i m = simp (e, i (Microphone.Since t))
-lists_more f fs (Found.Refused answer) e i m = simp (e, i m)
-lists_more f fs Found.Skipped e i m = simp (e, i m)
+lists_more : (f : Finding) (fs : List Finding) (x : Result Found RecordError) → f.found ≡ x → Lists fs → Lists (f ∷ fs)
+lists_more f fs (Ok (Found.Frame h)) e i m = simp (e, i m)
+lists_more f fs (Ok Found.Note) e i m = simp (e, i m)
+lists_more f fs (Ok (Found.Start t)) e i m = simp (e, i (Some t))
+lists_more f fs (Ok Found.Skipped) e i m = simp (e, i m)
+lists_more f fs (Err why) e i m = simp (e, i m)
 
 lists_stayed : (fs : List Finding) → Lists fs
 lists_stayed [] m = refl
 lists_stayed (f ∷ fs) m = lists_more f fs f.found refl (lists_stayed fs) m
 
-pub mended_lists : (s : List ℕ) → listed_of (copy_of s) ≡ unrefused Microphone.Silent (findings_of s) ++ (end_line 0 (listing_of s).skipped ∷ [])
+pub mended_lists : (s : List ℕ) → listed_of (copy_of s) ≡ unrefused None (findings_of s) ++ (end_line 0 (listing_of s).skipped ∷ [])
 unfolding listed_of
 mended_lists s =
-    ap (λ (l : Listing). lines_of Microphone.Silent l.findings ++ end_lines l) (list_of_copy s)
-    ∙ rw (lists_stayed (findings_of s) Microphone.Silent)
+    ap (λ (l : Listing). lines_of None l.findings ++ end_lines l) (list_of_copy s)
+    ∙ rw (lists_stayed (findings_of s) None)

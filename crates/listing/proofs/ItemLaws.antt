@@ -4,10 +4,10 @@ use mathlib.Core.Path.{◌≡◌, refl}
 use mathlib.Core.List.{List, [], ◌∷◌, ◌++◌, append_assoc}
 use native.Mathlib.Omega.{arith}
 use lib.ListN.{length, length-append}
+use Rattle.std.specs.Prelude.{Option}
 use Rattle.codec.specs.Choice.{pick}
 use Rattle.codec.specs.declared.time.Time.{Time}
 use Rattle.codec.specs.declared.item.Item.{Item}
-use Rattle.tape.specs.declared.microphone.Microphone.{Microphone}
 use Rattle.listing.specs.Line.{fixed_of, spread, bytes_text, front_text, item_line}
 use Rattle.listing.proofs.SpreadLaws.{pairs-length}
 
@@ -20,7 +20,7 @@ some_bytes [] h = absurd (h refl)
 some_bytes (b ∷ bs) h = refl
 
 -- cs is what the item carries
-module _ (m : Microphone) (t : Time) (it : Item) (bs cs : List ℕ) (e : cs ≡ pick it.carries bs []) where
+module _ (m : Option Time) (t : Time) (it : Item) (bs cs : List ℕ) (e : cs ≡ pick it.carries bs []) where
   pub item_bare : length cs ≡ 0 → item_line m t it bs ≡ front_text m t it (length bs) ++ (45 ∷ 10 ∷ [])
   unfolding item_line
   item_bare h = rw (← e, no_bytes cs h) (append_assoc (front_text m t it (length bs)) (45 ∷ []) (10 ∷ []))

@@ -17,28 +17,31 @@ use Rattle.codec.specs.Ident.{kind_of}
 use Rattle.codec.specs.Field.{read_item, bytes_at}
 use Rattle.codec.specs.declared.time.Time.{Time}
 use Rattle.codec.specs.declared.item.Item.{Item}
-use Rattle.codec.specs.declared.item.State.{State}
 use Rattle.codec.specs.declared.ident.Kind.{Kind}
 use Rattle.codec.specs.declared.ident.Ident.{Ident}
 use Rattle.codec.specs.declared.header.Header.{Header}
 use Rattle.codec.proofs.NumberLaws.{has_room_lem, over-over, length_over}
-use Rattle.codec.specs.declared.field.ItemRead.{ItemRead}
+use Rattle.codec.specs.declared.field.Decoded.{Decoded}
 use Rattle.codec.proofs.ItemLaws.{encode-length}
 use Rattle.codec.proofs.Inverse.{read_room, item_forth}
 use Rattle.codec.proofs.Stands.{bytes_part}
+use Rattle.std.specs.Prelude.{Option, Some, None, Result, Ok, Err}
+use Rattle.codec.specs.declared.refusal.Refusal.{Refusal}
+use Rattle.recording.specs.Error.{number_of}
+use Rattle.recording.specs.declared.error.RecordError.{RecordError}
 use Rattle.recording.specs.declared.field.Found.{Found}
 use Rattle.recording.specs.declared.field.Field.{Field}
 use Rattle.tape.specs.Sample.{position_of}
-use Rattle.tape.specs.declared.sample.Placed.{Placed}
+use Rattle.tape.specs.declared.sample.TooFar.{TooFar}
 use Rattle.text.specs.Put.{hexes}
 use Rattle.text.proofs.PutLaws.{decimal_length, hexes-length}
+use Rattle.text.proofs.DraftLaws.{row_most}
 use Rattle.listing.proofs.FixedLaws.{fixed_length}
 use Rattle.listing.proofs.SpreadLaws.{pairs-length}
 use Rattle.listing.proofs.EscapeLaws.{note_length}
 use Rattle.listing.proofs.LinesLaws.{lines_past, lines_bad, lines_item}
-use Rattle.tape.specs.declared.microphone.Microphone.{Microphone}
-use Rattle.listing.specs.Line.{field_text, hex_text, time_text, sign_text, signed_text, placed_text, position_text, kind_text, is_fd, bus_text, id_digits, can_text, channels_text, flexray_text, error_text, ident_text, state_text, load_text, bytes_text, place_text, shown_text, front_text, item_line, frame_line, start_line, pair_line, refused_line, skipped_line, note_line, plain, escape_of, spread}
-use Rattle.listing.specs.Field.{Text, item_lines, found_lines, field_lines, with, with_all, text_of, whole_of}
+use Rattle.listing.specs.Line.{field_text, hex_text, time_text, sign_text, signed_text, placed_text, position_text, kind_text, is_fd, bus_text, id_digits, can_text, channels_text, flexray_text, error_text, ident_text, state_text, load_text, bytes_text, place_text, shown_text, front_text, item_line, frame_line, start_line, refused_line, skipped_line, note_line, plain, escape_of, spread}
+use Rattle.listing.specs.Field.{Text, item_lines, good_lines, found_lines, field_lines, with, with_all, text_of, whole_of}
 
 text_as : {b b' : List ℕ} {a a' : ℕ} → b ≡ b' → a ≡ a' → ◌≡◌ {A = Text} (record { bytes = b; at = a }) (record { bytes = b'; at = a' })
 text_as x y = rw (x, y)
@@ -77,17 +80,17 @@ sign_most : (z : ℤ) → length (sign_text z) ≤ 2
 sign_most (pos n) = omega arith
 sign_most (negsuc n) = omega arith
 
-placed-most : (p : Placed) → length (placed_text p) ≤ 22
+placed-most : (p : Result ℤ TooFar) → length (placed_text p) ≤ 22
 unfolding signed_text
-placed-most (Placed.Sample z) =
+placed-most (Ok z) =
     let a = sign_most z in
     let b = decimal_length (nat_abs z) in
     simp length-append (omega arith)
-placed-most (Placed.Refused answer) = omega arith
+placed-most (Err why) = omega arith
 
-position_most : (m : Microphone) (t : Time) → length (position_text m t) ≤ 22
-position_most Microphone.Silent t = omega arith
-position_most (Microphone.Since start) t = placed-most (position_of start t)
+position_most : (m : Option Time) (t : Time) → length (position_text m t) ≤ 22
+position_most None t = omega arith
+position_most (Some start) t = placed-most (position_of start t)
 
 kind_most : (k : Kind) → length (kind_text k) ≤ 8
 kind_most Kind.Can = omega arith
@@ -135,9 +138,9 @@ ident_most (Ident.FlexRay c slot cycle) =
 ident_most (Ident.FlexRayError c) = let a = channels_most c in simp length-append (omega arith)
 ident_most (Ident.Bare k) = omega arith
 
-state_most : (s : State) → length (state_text s) ≤ 3
-state_most (State.Byte b) = let a = hex_most 2 b in omega arith
-state_most State.Absent = omega arith
+state_most : (s : Option ℕ) → length (state_text s) ≤ 3
+state_most (Some b) = let a = hex_most 2 b in omega arith
+state_most None = omega arith
 
 load_most : (b : Bool) (n : ℕ) → length (load_text b n) ≤ 21
 load_most true n = field_most n
@@ -147,7 +150,7 @@ bytes_most : (bs : List ℕ) → length (bytes_text bs) ≤ 1 + 2 * length bs
 bytes_most [] = omega arith
 bytes_most (b ∷ bs) = let a = pairs-length (b ∷ bs) in omega arith
 
-front_most : (m : Microphone) (t : Time) (it : Item) (n : ℕ) → length (front_text m t it n) ≤ 156
+front_most : (m : Option Time) (t : Time) (it : Item) (n : ℕ) → length (front_text m t it n) ≤ 156
 unfolding front_text place_text shown_text
 front_most m t it n =
     let a = time_most t in
@@ -164,7 +167,7 @@ carried_most true bs = omega arith
 carried_most false bs = omega arith
 
 -- an item's line is at most 40 times as long as the item
-item_most : (m : Microphone) (t : Time) (it : Item) (bs : List ℕ) → length (item_line m t it bs) ≤ 40 * length (encode it bs)
+item_most : (m : Option Time) (t : Time) (it : Item) (bs : List ℕ) → length (item_line m t it bs) ≤ 40 * length (encode it bs)
 unfolding item_line
 item_most m t it bs =
     let a = front_most m t it (length bs) in
@@ -174,19 +177,19 @@ item_most m t it bs =
     rw d (simp length-append (omega arith))
 
 -- and so those of all items from a place on
-module _ (m : Microphone) (t : Time) (s : List ℕ) (b : Bytes s) where
+module _ (m : Option Time) (t : Time) (s : List ℕ) (b : Bytes s) where
   items_step : (n at : ℕ) → at < length s → ((next : ℕ) → at < next → length (text_of (item_lines m t s next)) ≤ 40 * (length s - next))
-      → (r : ItemRead) → read_item s at ≡ r → length (text_of (item_lines m t s at)) ≤ 40 * (length s - at)
-  items_step n at h ih (ItemRead.Refused why) q = rw (lines_bad m t s at h q) (omega arith)
-  items_step n at h ih (ItemRead.Got it start len next) q =
+      → (r : Result Decoded Refusal) → read_item s at ≡ r → length (text_of (item_lines m t s at)) ≤ 40 * (length s - at)
+  items_step n at h ih (Err why) q = rw (lines_bad m t s at h q) (omega arith)
+  items_step n at h ih (Ok d) q =
       let f = item_forth s at b q in
       let e = f.ends in
       let r = read_room s at q in
       let lo = r.0 in
       let hi = r.1 in
-      let i = ih next (omega arith) in
-      let w = item_most m (recovered_of t it.offset.0) it (bytes_at s start len) in
-      rw (lines_item m t s at h q, length-append (item_line m (recovered_of t it.offset.0) it (bytes_at s start len)) (text_of (item_lines m t s next))) (omega arith)
+      let i = ih d.next (omega arith) in
+      let w = item_most m (recovered_of t d.item.offset.0) d.item (bytes_at s d.start d.len) in
+      rw (lines_item m t s at h q, length-append (item_line m (recovered_of t d.item.offset.0) d.item (bytes_at s d.start d.len)) (text_of (item_lines m t s d.next))) (omega arith)
 
   items_most : (n at : ℕ) → length s - at ≤ n → length (text_of (item_lines m t s at)) ≤ 40 * (length s - at)
   items_most zero at h = rw (lines_past m t s at (omega arith)) (omega arith)
@@ -210,13 +213,6 @@ start_most : (t : Time) → length (start_line t) ≤ 37
 unfolding start_line
 start_most t = let a = time_most t in simp length-append (omega arith)
 
-pair_most : (name : List ℕ) (a b : ℕ) → length (pair_line name a b) ≤ length name + 43
-unfolding pair_line
-pair_most name a b =
-    let d = field_most a in
-    let e = field_most b in
-    simp length-append (omega arith)
-
 escape_most : (b : ℕ) → length (escape_of b) ≤ 4
 unfolding escape_of
 escape_most b =
@@ -230,26 +226,29 @@ spread-most (b ∷ bs) =
     let r = spread-most bs in
     rw (length-append (escape_of b) (spread escape_of bs)) (omega arith)
 
-module _ (m : Microphone) (tag n : ℕ) (body : List ℕ) (b : Bytes body) (h : length body ≤ 1472) where
-  found_most : (f : Found) → length (text_of (found_lines m tag n f body)) ≤ 65536
-  found_most (Found.Frame x) =
+module _ (m : Option Time) (tag n : ℕ) (body : List ℕ) (b : Bytes body) (h : length body ≤ 1472) where
+  good_most : (f : Found) → length (text_of (good_lines m tag n f body)) ≤ 65536
+  good_most (Found.Frame x) =
       let a = frame_most x in
       let d = items_most m x.time body b (length body - 14) 14 (omega arith) in
       rw (length-append (frame_line x) (text_of (item_lines m x.time body 14))) (omega arith)
-  found_most Found.Note =
+  good_most Found.Note =
       let a = spread-most body in
       let d = note_length body in
       rw (append-nil (note_line body)) (omega arith)
-  found_most (Found.Start t) = let a = start_most t in rw (append-nil (start_line t)) (omega arith)
-  found_most (Found.Refused answer) =
-      let a = pair_most (114 ∷ 101 ∷ 102 ∷ 117 ∷ 115 ∷ 101 ∷ 100 ∷ []) tag answer in
-      rw (append-nil (refused_line tag answer)) (omega arith)
-  found_most Found.Skipped =
-      let a = pair_most (115 ∷ 107 ∷ 105 ∷ 112 ∷ 112 ∷ 101 ∷ 100 ∷ []) tag n in
+  good_most (Found.Start t) = let a = start_most t in rw (append-nil (start_line t)) (omega arith)
+  good_most Found.Skipped =
+      let a = row_most 8 2 (115 ∷ 107 ∷ 105 ∷ 112 ∷ 112 ∷ 101 ∷ 100 ∷ []) (tag ∷ n ∷ []) (omega arith) (omega arith) in
       rw (append-nil (skipped_line tag n)) (omega arith)
 
+  found_most : (f : Result Found RecordError) → length (text_of (found_lines m tag n f body)) ≤ 65536
+  found_most (Ok found) = good_most found
+  found_most (Err why) =
+      let a = row_most 8 2 (114 ∷ 101 ∷ 102 ∷ 117 ∷ 115 ∷ 101 ∷ 100 ∷ []) (tag ∷ number_of why ∷ []) (omega arith) (omega arith) in
+      rw (append-nil (refused_line tag (number_of why))) (omega arith)
+
 -- a field of a recording, its body in a buffer of 1,472 bytes
-pub none_left_out : (m : Microphone) (f : Field) (buffer : List ℕ) (t : Text) → Bytes buffer → length buffer ≤ 1472 → t.at + 65536 ≤ length t.bytes
+pub none_left_out : (m : Option Time) (f : Field) (buffer : List ℕ) (t : Text) → Bytes buffer → length buffer ≤ 1472 → t.at + 65536 ≤ length t.bytes
     → with_all t (field_lines m f buffer) ≡ whole_of t (text_of (field_lines m f buffer))
 none_left_out m f buffer t b h r =
     let k : length (take f.length buffer) ≤ 1472 = rw (length-take f.length buffer) (omega arith) in

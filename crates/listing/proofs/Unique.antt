@@ -10,7 +10,8 @@ use Rattle.listing.proofs.line.skipped.Reads as skipped
 use Rattle.listing.proofs.line.end.Reads as end
 use Rattle.listing.proofs.field.lines.Reads as lines
 use Rattle.listing.specs.declared.field.Cursor.{Cursor}
-use Rattle.tape.specs.declared.microphone.Microphone.{Microphone}
+use Rattle.std.specs.Prelude.{Option}
+use Rattle.codec.specs.declared.time.Time.{Time}
 use Rattle.listing.specs.Field.{Text}
 
 pub frame_unique : (κs : _) (a : _) (r r' : _) (x x' : _) → frame.Post κs a r x → frame.Post κs a r' x' → (r ≡ r') × (x.0.now ≡ x'.0.now)
@@ -39,5 +40,5 @@ lines_unique κs a r r' x x' p q =
     let e = p.0 ∙ sym q.0 in
     (same (ap (λ (t : Text). t.at) e) (p.1 ∙ sym q.1), ap (λ (t : Text). t.bytes) e)
   where
-    same : {c d : Cursor} → c.at ≡ d.at → c.microphone ≡ d.microphone → c ≡ d
-    same {c} {d} f g = ap (λ (n : ℕ). record { at = n; microphone = c.microphone }) f ∙ ap (λ (w : Microphone). record { at = d.at; microphone = w }) g
+    same : {c d : Cursor} → c.at ≡ d.at → c.start ≡ d.start → c ≡ d
+    same {c} {d} f g = ap (λ (n : ℕ). record { at = n; start = c.start }) f ∙ ap (λ (w : Option Time). record { at = d.at; start = w }) g

@@ -7,52 +7,52 @@ use Rattle.codec.specs.Ident.{can_fd}
 use Rattle.codec.specs.declared.time.Time.{Time}
 use Rattle.codec.specs.declared.ident.Kind.TheVariants as Kind
 use Rattle.codec.specs.declared.ident.Ident.{Ident}
-use Rattle.codec.specs.declared.item.State.{State}
 use Rattle.codec.specs.declared.item.Item.{Item}
+use Rattle.std.specs.Prelude.{Option, Some, None}
 use Rattle.tape.specs.Sample.{sample_of, placed_of}
-use Rattle.text.specs.Put.{letter_of, decimals, decimal_of}
-use Rattle.tape.specs.declared.microphone.Microphone.TheVariants as Microphone
-use Rattle.listing.specs.Line.{capital_of, fixed_of, field_text, hex_text, time_text, signed_text, position_text, bus_text, id_digits, can_text, channels_text, flexray_text, error_text, place_text, shown_text, front_text, item_line, frame_line, start_line, pair_line, refused_line, skipped_line, end_line, plain, escape_of, note_line}
+use Rattle.text.specs.Put.{letter_of, capital_of, decimals, decimal_of}
+use Rattle.text.specs.Draft.{row_of}
+use Rattle.listing.specs.Line.{fixed_of, field_text, hex_text, time_text, signed_text, position_text, bus_text, id_digits, can_text, channels_text, flexray_text, error_text, place_text, shown_text, front_text, item_line, frame_line, start_line, refused_line, skipped_line, end_line, plain, escape_of, note_line}
 
 abbrev five : Time
 five = record { sec = 5; nano = 1 }
 
 -- an item of network 9; its offset is not shown
-abbrev made : State → Ident → Bool → Item
+abbrev made : Option ℕ → Ident → Bool → Item
 made state ident carries = record { offset = record { 0 = 0 }; network = 9; state = state; ident = ident; carries = carries }
 
 -- "  5.000000001 - CANFD 9 01ABCDEF 40 1 AA"
-can-fd : item_line Microphone.Silent five (made (State.Byte 0x40) (Ident.Can 0xc1abcdef) true) (0xaa ∷ []) ≡ 32 ∷ 32 ∷ 53 ∷ 46 ∷ 48 ∷ 48 ∷ 48 ∷ 48 ∷ 48 ∷ 48 ∷ 48 ∷ 48 ∷ 49 ∷ 32 ∷ 45 ∷ 32 ∷ 67 ∷ 65 ∷ 78 ∷ 70 ∷ 68 ∷ 32 ∷ 57 ∷ 32 ∷ 48 ∷ 49 ∷ 65 ∷ 66 ∷ 67 ∷ 68 ∷ 69 ∷ 70 ∷ 32 ∷ 52 ∷ 48 ∷ 32 ∷ 49 ∷ 32 ∷ 65 ∷ 65 ∷ 10 ∷ []
+can-fd : item_line None five (made (Some 0x40) (Ident.Can 0xc1abcdef) true) (0xaa ∷ []) ≡ 32 ∷ 32 ∷ 53 ∷ 46 ∷ 48 ∷ 48 ∷ 48 ∷ 48 ∷ 48 ∷ 48 ∷ 48 ∷ 48 ∷ 49 ∷ 32 ∷ 45 ∷ 32 ∷ 67 ∷ 65 ∷ 78 ∷ 70 ∷ 68 ∷ 32 ∷ 57 ∷ 32 ∷ 48 ∷ 49 ∷ 65 ∷ 66 ∷ 67 ∷ 68 ∷ 69 ∷ 70 ∷ 32 ∷ 52 ∷ 48 ∷ 32 ∷ 49 ∷ 32 ∷ 65 ∷ 65 ∷ 10 ∷ []
 unfolding item_line front_text place_text shown_text bus_text decimal_of decimals fixed_of capital_of field_text time_text can_text id_digits hex_text can_fd
 can-fd = refl
 
 -- "  5.000000001 - CANFD 9 123 - 1 00"
-can_fd_standard : item_line Microphone.Silent five (made State.Absent (Ident.Can 0x40000123) true) (0x00 ∷ []) ≡ 32 ∷ 32 ∷ 53 ∷ 46 ∷ 48 ∷ 48 ∷ 48 ∷ 48 ∷ 48 ∷ 48 ∷ 48 ∷ 48 ∷ 49 ∷ 32 ∷ 45 ∷ 32 ∷ 67 ∷ 65 ∷ 78 ∷ 70 ∷ 68 ∷ 32 ∷ 57 ∷ 32 ∷ 49 ∷ 50 ∷ 51 ∷ 32 ∷ 45 ∷ 32 ∷ 49 ∷ 32 ∷ 48 ∷ 48 ∷ 10 ∷ []
+can_fd_standard : item_line None five (made None (Ident.Can 0x40000123) true) (0x00 ∷ []) ≡ 32 ∷ 32 ∷ 53 ∷ 46 ∷ 48 ∷ 48 ∷ 48 ∷ 48 ∷ 48 ∷ 48 ∷ 48 ∷ 48 ∷ 49 ∷ 32 ∷ 45 ∷ 32 ∷ 67 ∷ 65 ∷ 78 ∷ 70 ∷ 68 ∷ 32 ∷ 57 ∷ 32 ∷ 49 ∷ 50 ∷ 51 ∷ 32 ∷ 45 ∷ 32 ∷ 49 ∷ 32 ∷ 48 ∷ 48 ∷ 10 ∷ []
 unfolding item_line front_text place_text shown_text bus_text decimal_of decimals fixed_of capital_of field_text time_text can_text id_digits hex_text can_fd
 can_fd_standard = refl
 
 -- "  5.000000001 - CAN 9 0A3 - 2 01F2"
-can : item_line Microphone.Silent five (made State.Absent (Ident.Can 0xa3) true) (0x01 ∷ 0xf2 ∷ []) ≡ 32 ∷ 32 ∷ 53 ∷ 46 ∷ 48 ∷ 48 ∷ 48 ∷ 48 ∷ 48 ∷ 48 ∷ 48 ∷ 48 ∷ 49 ∷ 32 ∷ 45 ∷ 32 ∷ 67 ∷ 65 ∷ 78 ∷ 32 ∷ 57 ∷ 32 ∷ 48 ∷ 65 ∷ 51 ∷ 32 ∷ 45 ∷ 32 ∷ 50 ∷ 32 ∷ 48 ∷ 49 ∷ 70 ∷ 50 ∷ 10 ∷ []
+can : item_line None five (made None (Ident.Can 0xa3) true) (0x01 ∷ 0xf2 ∷ []) ≡ 32 ∷ 32 ∷ 53 ∷ 46 ∷ 48 ∷ 48 ∷ 48 ∷ 48 ∷ 48 ∷ 48 ∷ 48 ∷ 48 ∷ 49 ∷ 32 ∷ 45 ∷ 32 ∷ 67 ∷ 65 ∷ 78 ∷ 32 ∷ 57 ∷ 32 ∷ 48 ∷ 65 ∷ 51 ∷ 32 ∷ 45 ∷ 32 ∷ 50 ∷ 32 ∷ 48 ∷ 49 ∷ 70 ∷ 50 ∷ 10 ∷ []
 unfolding item_line front_text place_text shown_text bus_text decimal_of decimals fixed_of capital_of field_text time_text can_text id_digits hex_text can_fd
 can = refl
 
 -- "  5.000000001 - LIN 9 7D 00 1 FF"
-lin : item_line Microphone.Silent five (made (State.Byte 0) (Ident.Lin 0x7d) true) (0xff ∷ []) ≡ 32 ∷ 32 ∷ 53 ∷ 46 ∷ 48 ∷ 48 ∷ 48 ∷ 48 ∷ 48 ∷ 48 ∷ 48 ∷ 48 ∷ 49 ∷ 32 ∷ 45 ∷ 32 ∷ 76 ∷ 73 ∷ 78 ∷ 32 ∷ 57 ∷ 32 ∷ 55 ∷ 68 ∷ 32 ∷ 48 ∷ 48 ∷ 32 ∷ 49 ∷ 32 ∷ 70 ∷ 70 ∷ 10 ∷ []
+lin : item_line None five (made (Some 0) (Ident.Lin 0x7d) true) (0xff ∷ []) ≡ 32 ∷ 32 ∷ 53 ∷ 46 ∷ 48 ∷ 48 ∷ 48 ∷ 48 ∷ 48 ∷ 48 ∷ 48 ∷ 48 ∷ 49 ∷ 32 ∷ 45 ∷ 32 ∷ 76 ∷ 73 ∷ 78 ∷ 32 ∷ 57 ∷ 32 ∷ 55 ∷ 68 ∷ 32 ∷ 48 ∷ 48 ∷ 32 ∷ 49 ∷ 32 ∷ 70 ∷ 70 ∷ 10 ∷ []
 unfolding item_line front_text place_text shown_text bus_text decimal_of decimals fixed_of capital_of field_text time_text hex_text
 lin = refl
 
 -- "  5.000000001 - FLEXRAY 9 AB:1027:63 - 0 -"
-flexray : item_line Microphone.Silent five (made State.Absent (Ident.FlexRay 3 1027 63) true) [] ≡ 32 ∷ 32 ∷ 53 ∷ 46 ∷ 48 ∷ 48 ∷ 48 ∷ 48 ∷ 48 ∷ 48 ∷ 48 ∷ 48 ∷ 49 ∷ 32 ∷ 45 ∷ 32 ∷ 70 ∷ 76 ∷ 69 ∷ 88 ∷ 82 ∷ 65 ∷ 89 ∷ 32 ∷ 57 ∷ 32 ∷ 65 ∷ 66 ∷ 58 ∷ 49 ∷ 48 ∷ 50 ∷ 55 ∷ 58 ∷ 54 ∷ 51 ∷ 32 ∷ 45 ∷ 32 ∷ 48 ∷ 32 ∷ 45 ∷ 10 ∷ []
+flexray : item_line None five (made None (Ident.FlexRay 3 1027 63) true) [] ≡ 32 ∷ 32 ∷ 53 ∷ 46 ∷ 48 ∷ 48 ∷ 48 ∷ 48 ∷ 48 ∷ 48 ∷ 48 ∷ 48 ∷ 49 ∷ 32 ∷ 45 ∷ 32 ∷ 70 ∷ 76 ∷ 69 ∷ 88 ∷ 82 ∷ 65 ∷ 89 ∷ 32 ∷ 57 ∷ 32 ∷ 65 ∷ 66 ∷ 58 ∷ 49 ∷ 48 ∷ 50 ∷ 55 ∷ 58 ∷ 54 ∷ 51 ∷ 32 ∷ 45 ∷ 32 ∷ 48 ∷ 32 ∷ 45 ∷ 10 ∷ []
 unfolding item_line front_text place_text shown_text bus_text decimal_of decimals fixed_of capital_of field_text time_text flexray_text channels_text
 flexray = refl
 
 -- "  5.000000001 - FLEXRAY 9 B:-:- 05 - -": a payload that the item does not carry is not shown
-error : item_line Microphone.Silent five (made (State.Byte 5) (Ident.FlexRayError 2) false) (0xff ∷ []) ≡ 32 ∷ 32 ∷ 53 ∷ 46 ∷ 48 ∷ 48 ∷ 48 ∷ 48 ∷ 48 ∷ 48 ∷ 48 ∷ 48 ∷ 49 ∷ 32 ∷ 45 ∷ 32 ∷ 70 ∷ 76 ∷ 69 ∷ 88 ∷ 82 ∷ 65 ∷ 89 ∷ 32 ∷ 57 ∷ 32 ∷ 66 ∷ 58 ∷ 45 ∷ 58 ∷ 45 ∷ 32 ∷ 48 ∷ 53 ∷ 32 ∷ 45 ∷ 32 ∷ 45 ∷ 10 ∷ []
+error : item_line None five (made (Some 5) (Ident.FlexRayError 2) false) (0xff ∷ []) ≡ 32 ∷ 32 ∷ 53 ∷ 46 ∷ 48 ∷ 48 ∷ 48 ∷ 48 ∷ 48 ∷ 48 ∷ 48 ∷ 48 ∷ 49 ∷ 32 ∷ 45 ∷ 32 ∷ 70 ∷ 76 ∷ 69 ∷ 88 ∷ 82 ∷ 65 ∷ 89 ∷ 32 ∷ 57 ∷ 32 ∷ 66 ∷ 58 ∷ 45 ∷ 58 ∷ 45 ∷ 32 ∷ 48 ∷ 53 ∷ 32 ∷ 45 ∷ 32 ∷ 45 ∷ 10 ∷ []
 unfolding item_line front_text place_text shown_text bus_text decimal_of decimals fixed_of capital_of field_text time_text error_text channels_text hex_text
 error = refl
 
 -- "  5.000000001 - CAN 9 - 80 - -"
-bare : item_line Microphone.Silent five (made (State.Byte 0x80) (Ident.Bare Kind.Can) false) [] ≡ 32 ∷ 32 ∷ 53 ∷ 46 ∷ 48 ∷ 48 ∷ 48 ∷ 48 ∷ 48 ∷ 48 ∷ 48 ∷ 48 ∷ 49 ∷ 32 ∷ 45 ∷ 32 ∷ 67 ∷ 65 ∷ 78 ∷ 32 ∷ 57 ∷ 32 ∷ 45 ∷ 32 ∷ 56 ∷ 48 ∷ 32 ∷ 45 ∷ 32 ∷ 45 ∷ 10 ∷ []
+bare : item_line None five (made (Some 0x80) (Ident.Bare Kind.Can) false) [] ≡ 32 ∷ 32 ∷ 53 ∷ 46 ∷ 48 ∷ 48 ∷ 48 ∷ 48 ∷ 48 ∷ 48 ∷ 48 ∷ 48 ∷ 49 ∷ 32 ∷ 45 ∷ 32 ∷ 67 ∷ 65 ∷ 78 ∷ 32 ∷ 57 ∷ 32 ∷ 45 ∷ 32 ∷ 56 ∷ 48 ∷ 32 ∷ 45 ∷ 32 ∷ 45 ∷ 10 ∷ []
 unfolding item_line front_text place_text shown_text bus_text decimal_of decimals fixed_of capital_of field_text time_text hex_text
 bare = refl
 
@@ -60,7 +60,7 @@ bare = refl
 abbrev at : ℕ → ℕ → Time
 at s n = record { sec = s; nano = n }
 
-positions : position_text Microphone.Silent five ∷ position_text (Microphone.Since (at 5 1)) five ∷ position_text (Microphone.Since (at 5 2)) five ∷ position_text (Microphone.Since (at 5 20835)) five ∷ position_text (Microphone.Since (at 4 999979167)) five ∷ position_text (Microphone.Since (at 4 1)) five ∷ position_text (Microphone.Since (at 86405 1)) five ∷ position_text (Microphone.Since (at 86405 2)) five ∷ []
+positions : position_text None five ∷ position_text (Some (at 5 1)) five ∷ position_text (Some (at 5 2)) five ∷ position_text (Some (at 5 20835)) five ∷ position_text (Some (at 4 999979167)) five ∷ position_text (Some (at 4 1)) five ∷ position_text (Some (at 86405 1)) five ∷ position_text (Some (at 86405 2)) five ∷ []
     ≡ (32 ∷ 45 ∷ []) ∷ (32 ∷ 48 ∷ []) ∷ (32 ∷ 45 ∷ 49 ∷ []) ∷ (32 ∷ 45 ∷ 50 ∷ []) ∷ (32 ∷ 49 ∷ []) ∷ (32 ∷ 52 ∷ 56 ∷ 48 ∷ 48 ∷ 48 ∷ []) ∷ (32 ∷ 45 ∷ 52 ∷ 49 ∷ 52 ∷ 55 ∷ 50 ∷ 48 ∷ 48 ∷ 48 ∷ 48 ∷ 48 ∷ []) ∷ (32 ∷ 45 ∷ []) ∷ []
 unfolding signed_text sample_of placed_of decimal_of decimals
 positions = refl
@@ -82,17 +82,17 @@ late = refl
 
 -- "refused 1 22"
 refused : refused_line 1 22 ≡ 114 ∷ 101 ∷ 102 ∷ 117 ∷ 115 ∷ 101 ∷ 100 ∷ 32 ∷ 49 ∷ 32 ∷ 50 ∷ 50 ∷ 10 ∷ []
-unfolding pair_line field_text decimal_of decimals
+unfolding row_of decimal_of decimals
 refused = refl
 
 -- "skipped 9 65535"
 skipped : skipped_line 9 65535 ≡ 115 ∷ 107 ∷ 105 ∷ 112 ∷ 112 ∷ 101 ∷ 100 ∷ 32 ∷ 57 ∷ 32 ∷ 54 ∷ 53 ∷ 53 ∷ 51 ∷ 53 ∷ 10 ∷ []
-unfolding pair_line field_text decimal_of decimals
+unfolding row_of decimal_of decimals
 skipped = refl
 
 -- "end 0 4294967295"
 end : end_line 0 4294967295 ≡ 101 ∷ 110 ∷ 100 ∷ 32 ∷ 48 ∷ 32 ∷ 52 ∷ 50 ∷ 57 ∷ 52 ∷ 57 ∷ 54 ∷ 55 ∷ 50 ∷ 57 ∷ 53 ∷ 10 ∷ []
-unfolding pair_line field_text decimal_of decimals
+unfolding row_of decimal_of decimals
 end = refl
 
 -- "note "

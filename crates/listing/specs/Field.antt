@@ -1,35 +1,38 @@
 -- The lines of a field, one after another, in an output that may have no room for one.
-use Rattle.std.specs.Prelude.{ℕ, ◌+◌, List, [], ◌∷◌, ◌++◌, map, length, take}
+use Rattle.std.specs.Prelude.{ℕ, ◌+◌, Option, Result, Ok, Err, List, [], ◌∷◌, ◌++◌, map, length, take}
 use Rattle.codec.specs.Choice.{pick}
 use Rattle.codec.specs.Number.{over, fits}
 use Rattle.codec.specs.Time.{recovered_of}
 use Rattle.codec.specs.Layout.{Entry}
 use Rattle.codec.specs.declared.time.Time.{Time}
-use Rattle.codec.specs.declared.number.Put.{Put}
 use Rattle.reader.specs.Frame.{items_of}
+use Rattle.recording.specs.Error.{number_of}
+use Rattle.recording.specs.declared.error.RecordError.{RecordError}
 use Rattle.recording.specs.declared.field.Found.{Found}
 use Rattle.recording.specs.declared.field.Field.{Field}
-use Rattle.tape.specs.declared.microphone.Microphone.{Microphone}
 use Rattle.listing.specs.Line.{frame_line, item_line, note_line, start_line, refused_line, skipped_line}
 
 -- an item of a frame with this header time
-abbrev pub entry_line : Microphone → Time → Entry → List ℕ
+abbrev pub entry_line : Option Time → Time → Entry → List ℕ
 entry_line m t e = item_line m (recovered_of t e.item.offset.0) e.item e.payload
 
 -- the items of a frame from a place on, in order
-unfoldable pub item_lines : Microphone → Time → List ℕ → ℕ → List (List ℕ)
+unfoldable pub item_lines : Option Time → Time → List ℕ → ℕ → List (List ℕ)
 item_lines m t s at = map (entry_line m t) (items_of s at)
 
 -- the header's line and then the items'; of everything else one line
-abbrev pub found_lines : Microphone → ℕ → ℕ → Found → List ℕ → List (List ℕ)
-found_lines m tag n (Found.Frame h) body = frame_line h ∷ item_lines m h.time body 14
-found_lines m tag n Found.Note body = note_line body ∷ []
-found_lines m tag n (Found.Start t) body = start_line t ∷ []
-found_lines m tag n (Found.Refused answer) body = refused_line tag answer ∷ []
-found_lines m tag n Found.Skipped body = skipped_line tag n ∷ []
+abbrev pub good_lines : Option Time → ℕ → ℕ → Found → List ℕ → List (List ℕ)
+good_lines m tag n (Found.Frame h) body = frame_line h ∷ item_lines m h.time body 14
+good_lines m tag n Found.Note body = note_line body ∷ []
+good_lines m tag n (Found.Start t) body = start_line t ∷ []
+good_lines m tag n Found.Skipped body = skipped_line tag n ∷ []
+
+abbrev pub found_lines : Option Time → ℕ → ℕ → Result Found RecordError → List ℕ → List (List ℕ)
+found_lines m tag n (Ok found) body = good_lines m tag n found body
+found_lines m tag n (Err why) body = refused_line tag (number_of why) ∷ []
 
 -- the body is the front of the buffer
-abbrev pub field_lines : Microphone → Field → List ℕ → List (List ℕ)
+abbrev pub field_lines : Option Time → Field → List ℕ → List (List ℕ)
 field_lines m f buffer = found_lines m f.tag f.length f.found (take f.length buffer)
 
 -- an output, and where writing goes on in it
@@ -44,10 +47,6 @@ with t line = pick (fits t.bytes t.at (length line)) (record { bytes = over t.by
 abbrev pub with_all : Text → List (List ℕ) → Text
 with_all t [] = t
 with_all t (line ∷ lines) = with_all (with t line) lines
-
-abbrev pub past_of : Put → ℕ → ℕ
-past_of (Put.Next end) at = end
-past_of Put.Nothing at = at
 
 -- lines as one text
 abbrev pub text_of : List (List ℕ) → List ℕ

@@ -1,21 +1,16 @@
 -- How each line of a listing reads: words, each after a space (32), and a line feed (10).
-use Rattle.std.specs.Prelude.{ℕ, zero, suc, ◌+◌, ◌/◌, ◌%◌, ◌^◌, Bool, true, false, ◌&&◌, not, List, [], ◌∷◌, ◌++◌, length, ltb, leb, eqb, ℤ, pos, negsuc, nat_abs}
+use Rattle.std.specs.Prelude.{ℕ, zero, suc, ◌/◌, ◌%◌, ◌^◌, Option, Some, None, Result, Ok, Err, Bool, true, false, ◌&&◌, not, List, [], ◌∷◌, ◌++◌, length, leb, eqb, ℤ, pos, negsuc, nat_abs}
 use Rattle.codec.specs.Choice.{pick}
 use Rattle.codec.specs.Ident.{kind_of, can_fd}
 use Rattle.codec.specs.declared.time.Time.{Time}
 use Rattle.codec.specs.declared.header.Header.{Header}
 use Rattle.codec.specs.declared.ident.Kind.{Kind}
 use Rattle.codec.specs.declared.ident.Ident.{Ident}
-use Rattle.codec.specs.declared.item.State.{State}
 use Rattle.codec.specs.declared.item.Item.{Item}
 use Rattle.tape.specs.Sample.{position_of}
-use Rattle.tape.specs.declared.sample.Placed.{Placed}
-use Rattle.text.specs.Put.{decimal_of, hexes}
-use Rattle.tape.specs.declared.microphone.Microphone.{Microphone}
-
--- '0' to '9' and 'A' to 'F'
-unfoldable pub capital_of : ℕ → ℕ
-capital_of v = pick (ltb v 10) (v + 48) (v + 55)
+use Rattle.tape.specs.declared.sample.TooFar.{TooFar}
+use Rattle.text.specs.Put.{capital_of, decimal_of, hexes}
+use Rattle.text.specs.Draft.{row_of}
 
 -- the n low digits of v in a base, leading zeros shown
 unfoldable pub fixed_of : ℕ → ℕ → ℕ → List ℕ
@@ -51,14 +46,14 @@ sign_text (negsuc n) = 32 ∷ 45 ∷ []
 unfoldable pub signed_text : ℤ → List ℕ
 signed_text z = sign_text z ++ decimal_of (nat_abs z)
 
-abbrev pub placed_text : Placed → List ℕ
-placed_text (Placed.Sample n) = signed_text n
-placed_text (Placed.Refused answer) = dash
+abbrev pub placed_text : Result ℤ TooFar → List ℕ
+placed_text (Ok n) = signed_text n
+placed_text (Err why) = dash
 
 -- POSITION: from the latest good start; '-' before one, and where 61 applies
-abbrev pub position_text : Microphone → Time → List ℕ
-position_text Microphone.Silent t = dash
-position_text (Microphone.Since start) t = placed_text (position_of start t)
+abbrev pub position_text : Option Time → Time → List ℕ
+position_text None t = dash
+position_text (Some start) t = placed_text (position_of start t)
 
 -- "CAN", "LIN", "FLEXRAY"
 abbrev pub kind_text : Kind → List ℕ
@@ -107,9 +102,9 @@ ident_text (Ident.FlexRayError channels) = error_text channels
 ident_text (Ident.Bare k) = dash
 
 -- STATE: two digits
-abbrev pub state_text : State → List ℕ
-state_text (State.Byte b) = hex_text 2 b
-state_text State.Absent = dash
+abbrev pub state_text : Option ℕ → List ℕ
+state_text (Some b) = hex_text 2 b
+state_text None = dash
 
 -- LENGTH of a payload, where the item carries one
 abbrev pub load_text : Bool → ℕ → List ℕ
@@ -122,18 +117,18 @@ bytes_text [] = 45 ∷ []
 bytes_text (b ∷ bs) = spread (fixed_of 16 2) (b ∷ bs)
 
 -- "  TIME POSITION BUS NETWORK"
-unfoldable pub place_text : Microphone → Time → Item → List ℕ
+unfoldable pub place_text : Option Time → Time → Item → List ℕ
 place_text m t it = (32 ∷ []) ++ time_text t ++ position_text m t ++ bus_text it.ident ++ field_text it.network
 
 -- " ID STATE LENGTH "
 unfoldable pub shown_text : Item → ℕ → List ℕ
 shown_text it n = ident_text it.ident ++ state_text it.state ++ load_text it.carries n ++ (32 ∷ [])
 
-unfoldable pub front_text : Microphone → Time → Item → ℕ → List ℕ
+unfoldable pub front_text : Option Time → Time → Item → ℕ → List ℕ
 front_text m t it n = place_text m t it ++ shown_text it n
 
 -- "  TIME POSITION BUS NETWORK ID STATE LENGTH BYTES"
-unfoldable pub item_line : Microphone → Time → Item → List ℕ → List ℕ
+unfoldable pub item_line : Option Time → Time → Item → List ℕ → List ℕ
 item_line m t it bs = front_text m t it (length bs) ++ bytes_text (pick it.carries bs []) ++ (10 ∷ [])
 
 -- "frame SEQUENCE TIME DATALENGTH"
@@ -144,21 +139,17 @@ frame_line h = (102 ∷ 114 ∷ 97 ∷ 109 ∷ 101 ∷ []) ++ field_text h.seque
 unfoldable pub start_line : Time → List ℕ
 start_line t = (115 ∷ 116 ∷ 97 ∷ 114 ∷ 116 ∷ []) ++ time_text t ++ (10 ∷ [])
 
--- a name and two numbers
-unfoldable pub pair_line : List ℕ → ℕ → ℕ → List ℕ
-pair_line name a b = name ++ field_text a ++ field_text b ++ (10 ∷ [])
-
 -- "refused TAG ANSWER"
 abbrev pub refused_line : ℕ → ℕ → List ℕ
-refused_line tag answer = pair_line (114 ∷ 101 ∷ 102 ∷ 117 ∷ 115 ∷ 101 ∷ 100 ∷ []) tag answer
+refused_line tag answer = row_of (114 ∷ 101 ∷ 102 ∷ 117 ∷ 115 ∷ 101 ∷ 100 ∷ []) (tag ∷ answer ∷ [])
 
 -- "skipped TAG LENGTH"
 abbrev pub skipped_line : ℕ → ℕ → List ℕ
-skipped_line tag n = pair_line (115 ∷ 107 ∷ 105 ∷ 112 ∷ 112 ∷ 101 ∷ 100 ∷ []) tag n
+skipped_line tag n = row_of (115 ∷ 107 ∷ 105 ∷ 112 ∷ 112 ∷ 101 ∷ 100 ∷ []) (tag ∷ n ∷ [])
 
 -- "end ANSWER SKIPPED"
 abbrev pub end_line : ℕ → ℕ → List ℕ
-end_line answer skipped = pair_line (101 ∷ 110 ∷ 100 ∷ []) answer skipped
+end_line answer skipped = row_of (101 ∷ 110 ∷ 100 ∷ []) (answer ∷ skipped ∷ [])
 
 -- printable ASCII but the backslash (92)
 unfoldable pub plain : ℕ → Bool

@@ -4,8 +4,6 @@ ghost use Rattle.codec.specs.Number.{Wrote, Sized};
 ghost use Rattle.text.specs.Short.{Short};
 ghost use Rattle.listing.specs.Line.{plain, escape_of, spread, note_fits, note_line};
 
-use codec::number::Put;
-
 // A byte that stands for itself. A backslash (92) starts an escape, so it is escaped too.
 #[tactic(auto, unfolding(crate::specs::Line::plain))]
 fn plain(b: u8) -> bool
@@ -21,16 +19,25 @@ fn width(b: u8) -> usize
     if plain(b) { 1 } else { 4 }
 }
 
+// A text behind what was laid before it, where there is room.
+pub(crate) fn lay(out: &mut [u8], at: usize, s: &[u8]) -> usize
+    requires { at + length s.now ≤ length out.old }
+    ensures { Short (length s.now) out.old at s.now out.new result }
+{
+    codec::number::put_bytes(out, at, s);
+    at + s.len()
+}
+
 fn lay_byte(out: &mut [u8], at: usize, b: u8) -> usize
     requires { at + length (escape_of b) ≤ length out.old }
     ensures { Short 4 out.old at (escape_of b) out.new result }
 {
     let one = [b];
     if plain(b) {
-        return crate::word::lay(out, at, &one);
+        return lay(out, at, &one);
     }
     // One byte is two digits.
-    let a = crate::word::lay(out, at, b"\\x");
+    let a = lay(out, at, b"\\x");
     text::put::hex(out, a, &one);
     a + 2
 }
@@ -41,14 +48,11 @@ fn fits(src: &[u8], room: usize) -> bool
     ensures { result ≡ note_fits src.now room }
 {
     let mut left = room;
-    let mut i = 0;
-    while i < src.len() {
-        let n = width(src[i]);
-        if left < n {
+    for &b in src {
+        let Some(less) = left.checked_sub(width(b)) else {
             return false;
-        }
-        left -= n;
-        i += 1;
+        };
+        left = less;
     }
     true
 }
@@ -57,31 +61,23 @@ fn lay_bytes(out: &mut [u8], at: usize, src: &[u8]) -> usize
     requires { at + length (spread escape_of src.now) ≤ length out.old }
     ensures { Short (length (spread escape_of src.now)) out.old at (spread escape_of src.now) out.new result }
 {
-    let mut i = 0;
     let mut k = at;
-    while i < src.len() {
-        k = lay_byte(out, k, src[i]);
-        i += 1;
+    for &b in src {
+        k = lay_byte(out, k, b);
     }
     k
 }
 
 #[tactic(auto, unfolding(crate::specs::Line::note_line))]
-pub fn note(out: &mut [u8], at: usize, text: &[u8]) -> Put
+pub fn note(out: &mut [u8], at: usize, text: &[u8]) -> Option<usize>
     ensures { Wrote true out.old at (note_line text.now) out.new result }
 {
     // The name, its space and the line feed are six.
-    let most = out.len();
-    if most < 6 {
-        return Put::Nothing;
+    let room = out.len().checked_sub(at)?.checked_sub(6)?;
+    if !fits(text, room) {
+        return None;
     }
-    if most - 6 < at {
-        return Put::Nothing;
-    }
-    if !fits(text, most - 6 - at) {
-        return Put::Nothing;
-    }
-    let a = crate::word::lay(out, at, b"note ");
+    let a = lay(out, at, b"note ");
     let b = lay_bytes(out, a, text);
-    Put::Next(crate::word::lay(out, b, b"\n"))
+    Some(lay(out, b, b"\n"))
 }

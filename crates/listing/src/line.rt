@@ -1,152 +1,105 @@
-// Lines of a bounded length, laid into a local text first, so that an output without room for the whole
-// of a line is left as it was; and the line of an item, whose bytes may be many.
+// Lines of a bounded length, put together first, so that an output without room for the whole of a line is left
+// as it was; and the line of an item, whose bytes may be many.
 ghost use Rattle.std.specs.Prelude.{◌≡◌, true, ◌∷◌, [], ◌++◌, ◌+◌, ◌≤◌, length};
 ghost use Rattle.codec.specs.Choice.{pick};
 ghost use Rattle.codec.specs.Number.{Wrote};
-ghost use Rattle.text.specs.Short.{Short};
-ghost use Rattle.listing.specs.Line.{fixed_of, spread, place_text, shown_text, front_text, frame_line, item_line, start_line, pair_line, refused_line, skipped_line, end_line};
+ghost use Rattle.text.specs.Draft.{Adds};
+ghost use Rattle.listing.specs.Line.{fixed_of, spread, place_text, shown_text, front_text, frame_line, item_line, start_line, refused_line, skipped_line, end_line};
 
+use crate::word;
+use crate::word::Line;
 use codec::header::Header;
 use codec::item::Item;
-use codec::number::Put;
 use codec::time::Time;
-use tape::Microphone;
 
 #[tactic(auto, unfolding(crate::specs::Line::frame_line))]
-fn lay_frame(out: &mut [u8], h: Header) -> usize
-    requires { 256 ≤ length out.old }
-    ensures { Short 256 out.old 0 (frame_line h) out.new result }
-{
-    let t = h.time;
-    let a = crate::word::lay(out, 0, b"frame");
-    let b = crate::word::field(out, a, h.sequence as u64);
-    let d = crate::word::time(out, b, t);
-    let e = crate::word::field(out, d, h.length as u64);
-    crate::word::lay(out, e, b"\n")
-}
-
-pub fn frame(out: &mut [u8], at: usize, h: Header) -> Put
+pub fn frame(out: &mut [u8], at: usize, h: Header) -> Option<usize>
     ensures { Wrote true out.old at (frame_line h) out.new result }
 {
-    let mut text = [0u8; 256];
-    let n = lay_frame(&mut text, h);
-    codec::number::put_bytes(out, at, &text[..n])
+    let mut line = Line::new();
+    word::lay(&mut line, b"frame");
+    word::field(&mut line, h.sequence as u64);
+    word::time(&mut line, h.time);
+    word::field(&mut line, h.length as u64);
+    word::lay(&mut line, b"\n");
+    line.put(out, at)
 }
 
 #[tactic(auto, unfolding(crate::specs::Line::start_line))]
-fn lay_start(out: &mut [u8], t: Time) -> usize
-    requires { 256 ≤ length out.old }
-    ensures { Short 256 out.old 0 (start_line t) out.new result }
-{
-    let a = crate::word::lay(out, 0, b"start");
-    let b = crate::word::time(out, a, t);
-    crate::word::lay(out, b, b"\n")
-}
-
-pub fn start(out: &mut [u8], at: usize, t: Time) -> Put
+pub fn start(out: &mut [u8], at: usize, t: Time) -> Option<usize>
     ensures { Wrote true out.old at (start_line t) out.new result }
 {
-    let mut text = [0u8; 256];
-    let n = lay_start(&mut text, t);
-    codec::number::put_bytes(out, at, &text[..n])
+    let mut line = Line::new();
+    word::lay(&mut line, b"start");
+    word::time(&mut line, t);
+    word::lay(&mut line, b"\n");
+    line.put(out, at)
 }
 
-#[tactic(auto, unfolding(crate::specs::Line::pair_line))]
-fn lay_pair(out: &mut [u8], name: &[u8], a: u64, b: u64) -> usize
-    requires name_len_bound { length name.now ≤ 8 }
-    requires in_bounds { 256 ≤ length out.old }
-    ensures { Short 256 out.old 0 (pair_line name.now a b) out.new result }
-{
-    let d = crate::word::lay(out, 0, name);
-    let e = crate::word::field(out, d, a);
-    let f = crate::word::field(out, e, b);
-    crate::word::lay(out, f, b"\n")
-}
-
-// A name and two numbers.
-fn pair(out: &mut [u8], at: usize, name: &[u8], a: u64, b: u64) -> Put
-    requires { length name.now ≤ 8 }
-    ensures { Wrote true out.old at (pair_line name.now a b) out.new result }
-{
-    let mut text = [0u8; 256];
-    let n = lay_pair(&mut text, name, a, b);
-    codec::number::put_bytes(out, at, &text[..n])
-}
-
-pub fn refused(out: &mut [u8], at: usize, tag: u8, answer: u8) -> Put
+pub fn refused(out: &mut [u8], at: usize, tag: u8, answer: u8) -> Option<usize>
     ensures { Wrote true out.old at (refused_line tag answer) out.new result }
 {
-    pair(out, at, b"refused", tag as u64, answer as u64)
+    Line::row(b"refused", &[tag as u64, answer as u64]).put(out, at)
 }
 
-pub fn skipped(out: &mut [u8], at: usize, tag: u8, length: u16) -> Put
+pub fn skipped(out: &mut [u8], at: usize, tag: u8, length: u16) -> Option<usize>
     ensures { Wrote true out.old at (skipped_line tag length) out.new result }
 {
-    pair(out, at, b"skipped", tag as u64, length as u64)
+    Line::row(b"skipped", &[tag as u64, length as u64]).put(out, at)
 }
 
-pub fn end(out: &mut [u8], at: usize, answer: u8, skipped: u32) -> Put
+pub fn end(out: &mut [u8], at: usize, answer: u8, skipped: u32) -> Option<usize>
     ensures { Wrote true out.old at (end_line answer skipped) out.new result }
 {
-    pair(out, at, b"end", answer as u64, skipped as u64)
+    Line::row(b"end", &[answer as u64, skipped as u64]).put(out, at)
 }
 
 #[tactic(auto, unfolding(crate::specs::Line::place_text))]
-fn lay_place(out: &mut [u8], microphone: Microphone, t: Time, it: Item) -> usize
-    requires { 256 ≤ length out.old }
-    ensures { Short 85 out.old 0 (place_text microphone t it) out.new result }
+fn place(line: &mut Line, start: Option<Time>, t: Time, it: Item)
+    requires { length line.old + 85 ≤ 256 }
+    ensures { Adds 85 line.old (place_text start t it) line.new }
 {
-    let id = it.ident;
-    let a = crate::word::lay(out, 0, b" ");
-    let b = crate::word::time(out, a, t);
-    let d = crate::word::position(out, b, microphone, t);
-    let e = crate::word::bus(out, d, id);
-    crate::word::field(out, e, it.network as u64)
+    word::lay(line, b" ");
+    word::time(line, t);
+    word::position(line, start, t);
+    word::bus(line, it.ident);
+    word::field(line, it.network as u64);
 }
 
 #[tactic(auto, unfolding(crate::specs::Line::shown_text))]
-fn lay_shown(out: &mut [u8], at: usize, it: Item, n: usize) -> usize
-    requires { at + 76 ≤ length out.old }
-    ensures { Short 76 out.old at (shown_text it n) out.new result }
+fn shown(line: &mut Line, it: Item, n: usize)
+    requires { length line.old + 76 ≤ 256 }
+    ensures { Adds 76 line.old (shown_text it n) line.new }
 {
-    let shown = it.state;
-    let id = it.ident;
-    let a = crate::word::ident(out, at, id);
-    let b = crate::word::state(out, a, shown);
-    let d = crate::word::load(out, b, it.carries, n);
-    crate::word::lay(out, d, b" ")
+    word::ident(line, it.ident);
+    word::state(line, it.state);
+    word::load(line, it.carries, n);
+    word::lay(line, b" ");
 }
 
 // What stands before an item's bytes.
 #[tactic(auto, unfolding(crate::specs::Line::front_text))]
-fn lay_front(out: &mut [u8], microphone: Microphone, t: Time, it: Item, n: usize) -> usize
-    requires { 256 ≤ length out.old }
-    ensures { Short 161 out.old 0 (front_text microphone t it n) out.new result }
+fn front(line: &mut Line, start: Option<Time>, t: Time, it: Item, n: usize)
+    requires { length line.old + 161 ≤ 256 }
+    ensures { Adds 161 line.old (front_text start t it n) line.new }
 {
-    let a = lay_place(out, microphone, t, it);
-    lay_shown(out, a, it, n)
+    place(line, start, t, it);
+    shown(line, it, n);
 }
 
 // A slice may be of any length, so the room is asked for first and the bytes are written straight to the
 // output.
-fn with_bytes(out: &mut [u8], at: usize, front: &[u8], src: &[u8]) -> Put
+fn with_bytes(out: &mut [u8], at: usize, front: &[u8], src: &[u8]) -> Option<usize>
     requires { length front.now ≤ 256 }
     ensures { Wrote true out.old at (front.now ++ spread (fixed_of 16 2) src.now ++ (10 ∷ [])) out.new result }
 {
-    let most = out.len();
-    let short = front.len() + 1;
-    if most < short {
-        return Put::Nothing;
+    let room = out.len().checked_sub(at)?.checked_sub(front.len() + 1)?;
+    if room / 2 < src.len() {
+        return None;
     }
-    if most - short < at {
-        return Put::Nothing;
-    }
-    if (most - short - at) / 2 < src.len() {
-        return Put::Nothing;
-    }
-    let a = crate::word::lay(out, at, front);
+    let a = crate::escape::lay(out, at, front);
     let b = crate::digit::bytes(out, a, src);
-    Put::Next(crate::word::lay(out, b, b"\n"))
+    Some(crate::escape::lay(out, b, b"\n"))
 }
 
 fn carried(carries: bool, payload: &[u8]) -> &[u8]
@@ -158,19 +111,19 @@ fn carried(carries: bool, payload: &[u8]) -> &[u8]
 pub fn item(
     out: &mut [u8],
     at: usize,
-    microphone: Microphone,
+    start: Option<Time>,
     time: Time,
     it: Item,
     payload: &[u8],
-) -> Put
-    ensures { Wrote true out.old at (item_line microphone time it payload.now) out.new result }
+) -> Option<usize>
+    ensures { Wrote true out.old at (item_line start time it payload.now) out.new result }
 {
-    let mut text = [0u8; 256];
-    let n = lay_front(&mut text, microphone, time, it, payload.len());
+    let mut line = Line::new();
+    front(&mut line, start, time, it, payload.len());
     let bytes = carried(it.carries, payload);
-    if bytes.len() == 0 {
-        let m = crate::word::lay(&mut text, n, b"-\n");
-        return codec::number::put_bytes(out, at, &text[..m]);
+    if bytes.is_empty() {
+        word::lay(&mut line, b"-\n");
+        return line.put(out, at);
     }
-    with_bytes(out, at, &text[..n], bytes)
+    with_bytes(out, at, line.as_slice(), bytes)
 }

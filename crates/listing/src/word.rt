@@ -1,126 +1,126 @@
-// The words of a line, each after a space. They are laid where the caller has seen that there is room.
-ghost use Rattle.std.specs.Prelude.{◌≡◌, [], ◌+◌, ◌%◌, ◌^◌, ◌≤◌, length, nat_abs};
+// The words of a line, each after a space. They are put into a line that has room for them.
+ghost use Rattle.std.specs.Prelude.{◌≡◌, [], ◌+◌, ◌%◌, ◌^◌, ◌≤◌, length};
 ghost use Rattle.codec.specs.Choice.{pick};
-ghost use Rattle.codec.specs.Number.{Below};
+ghost use Rattle.text.specs.Draft.{Adds};
 ghost use Rattle.text.specs.Put.{decimal_of};
-ghost use Rattle.text.specs.Short.{Short};
-ghost use Rattle.listing.specs.Line.{field_text, hex_text, time_text, sign_text, signed_text, placed_text, position_text, kind_text, is_fd, bus_text, id_digits, can_text, channels_text, flexray_text, error_text, ident_text, state_text, load_text};
+ghost use Rattle.listing.specs.Line.{dash, field_text, hex_text, time_text, sign_text, signed_text, placed_text, position_text, kind_text, is_fd, bus_text, can_text, channels_text, flexray_text, error_text, ident_text, state_text, load_text};
 
 use codec::ident::{Ident, Kind};
-use codec::item::State;
-use codec::number::Put;
 use codec::time::Time;
-use tape::{Microphone, Placed};
+use tape::TooFar;
+use text::draft::Draft;
 
-pub(crate) fn lay(out: &mut [u8], at: usize, s: &[u8]) -> usize
-    requires { at + length s.now ≤ length out.old }
-    ensures { Short (length s.now) out.old at s.now out.new result }
+pub(crate) type Line = Draft<256>;
+
+pub(crate) fn lay(line: &mut Line, s: &[u8])
+    requires { length line.old + length s.now ≤ 256 }
+    ensures { Adds (length s.now) line.old s.now line.new }
 {
-    codec::number::put_bytes(out, at, s);
-    at + s.len()
+    line.push(s);
 }
 
-fn number(out: &mut [u8], at: usize, v: u64) -> usize
-    requires { at + 20 ≤ length out.old }
-    ensures { Short 20 out.old at (decimal_of v) out.new result }
+fn number(line: &mut Line, v: u64)
+    requires { length line.old + 20 ≤ 256 }
+    ensures { Adds 20 line.old (decimal_of v) line.new }
 {
-    match text::put::decimal(out, at, v) {
-        Put::Next(next) => next,
-        Put::Nothing => at,
-    }
+    line.decimal(v);
+}
+
+// What is not there.
+fn dash(line: &mut Line)
+    requires { length line.old + 2 ≤ 256 }
+    ensures { Adds 2 line.old dash line.new }
+{
+    lay(line, b" -");
 }
 
 #[tactic(auto, unfolding(crate::specs::Line::field_text))]
-pub(crate) fn field(out: &mut [u8], at: usize, v: u64) -> usize
-    requires { at + 21 ≤ length out.old }
-    ensures { Short 21 out.old at (field_text v) out.new result }
+pub(crate) fn field(line: &mut Line, v: u64)
+    requires { length line.old + 21 ≤ 256 }
+    ensures { Adds 21 line.old (field_text v) line.new }
 {
-    let start = lay(out, at, b" ");
-    number(out, start, v)
+    lay(line, b" ");
+    number(line, v);
 }
 
 #[tactic(auto, unfolding(crate::specs::Line::hex_text))]
-fn hex(out: &mut [u8], at: usize, n: usize, v: u64) -> usize
-    requires n_bound { n ≤ 8 }
-    requires at_in_bounds { at + 9 ≤ length out.old }
-    ensures { Short 9 out.old at (hex_text n v) out.new result }
+fn hex<const WIDTH: usize>(line: &mut Line, v: u64)
+    requires width { WIDTH ≤ 8 }
+    requires room { length line.old + 9 ≤ 256 }
+    ensures { Adds 9 line.old (hex_text WIDTH v) line.new }
 {
-    let start = lay(out, at, b" ");
-    crate::digit::fixed(out, start, 16, n, v)
+    lay(line, b" ");
+    lay(line, &crate::digit::fixed::<16, WIDTH>(v));
 }
 
 #[tactic(auto, unfolding(crate::specs::Line::time_text))]
-pub(crate) fn time(out: &mut [u8], at: usize, t: Time) -> usize
-    requires { at + 31 ≤ length out.old }
-    ensures { Short 31 out.old at (time_text t) out.new result }
+pub(crate) fn time(line: &mut Line, t: Time)
+    requires { length line.old + 31 ≤ 256 }
+    ensures { Adds 31 line.old (time_text t) line.new }
 {
-    let a = field(out, at, t.sec);
-    let b = lay(out, a, b".");
-    crate::digit::fixed(out, b, 10, 9, t.nano as u64)
+    field(line, t.sec);
+    lay(line, b".");
+    lay(line, &crate::digit::fixed::<10, 9>(t.nano as u64));
 }
 
-// The least number has no negative in 64 bits, so that of its successor is taken, and one added.
-fn magnitude(n: i64) -> u64
-    ensures { result ≡ nat_abs n }
-{
-    if n < 0 { (-1 - n) as u64 + 1 } else { n as u64 }
-}
-
-fn sign(out: &mut [u8], at: usize, n: i64) -> usize
-    requires { at + 2 ≤ length out.old }
-    ensures { Short 2 out.old at (sign_text n) out.new result }
+fn sign(line: &mut Line, n: i64)
+    requires { length line.old + 2 ≤ 256 }
+    ensures { Adds 2 line.old (sign_text n) line.new }
 {
     if n < 0 {
-        return lay(out, at, b" -");
+        lay(line, b" -");
+    } else {
+        lay(line, b" ");
     }
-    lay(out, at, b" ")
 }
 
 #[tactic(auto, unfolding(crate::specs::Line::signed_text))]
-fn signed(out: &mut [u8], at: usize, n: i64) -> usize
-    requires { at + 22 ≤ length out.old }
-    ensures { Short 22 out.old at (signed_text n) out.new result }
+fn signed(line: &mut Line, n: i64)
+    requires { length line.old + 22 ≤ 256 }
+    ensures { Adds 22 line.old (signed_text n) line.new }
 {
-    let start = sign(out, at, n);
-    number(out, start, magnitude(n))
+    sign(line, n);
+    number(line, n.unsigned_abs());
 }
 
-fn placed(out: &mut [u8], at: usize, p: Placed) -> usize
-    requires { at + 22 ≤ length out.old }
-    ensures { Short 22 out.old at (placed_text p) out.new result }
+pub(crate) fn position(line: &mut Line, start: Option<Time>, t: Time)
+    requires { length line.old + 22 ≤ 256 }
+    ensures { Adds 22 line.old (position_text start t) line.new }
 {
-    match p {
-        Placed::Sample(n) => signed(out, at, n),
-        Placed::Refused(_) => lay(out, at, b" -"),
+    match start {
+        Some(start) => placed(line, tape::position(start, t)),
+        None => dash(line),
     }
 }
 
-pub(crate) fn position(out: &mut [u8], at: usize, microphone: Microphone, t: Time) -> usize
-    requires { at + 22 ≤ length out.old }
-    ensures { Short 22 out.old at (position_text microphone t) out.new result }
+fn placed(line: &mut Line, sample: Result<i64, TooFar>)
+    requires { length line.old + 22 ≤ 256 }
+    ensures { Adds 22 line.old (placed_text sample) line.new }
 {
-    match microphone {
-        Microphone::Silent => lay(out, at, b" -"),
-        Microphone::Since(start) => placed(out, at, tape::position(start, t)),
+    match sample {
+        Ok(n) => signed(line, n),
+        Err(TooFar) => dash(line),
     }
 }
 
 // A text that may be left out.
-fn shown(out: &mut [u8], at: usize, yes: bool, s: &[u8]) -> usize
-    requires { at + length s.now ≤ length out.old }
-    ensures { Short (length s.now) out.old at (pick yes s.now []) out.new result }
+fn shown(line: &mut Line, yes: bool, s: &[u8])
+    requires { length line.old + length s.now ≤ 256 }
+    ensures { Adds (length s.now) line.old (pick yes s.now []) line.new }
 {
-    if yes { lay(out, at, s) } else { at }
+    if yes {
+        lay(line, s);
+    }
 }
 
-fn kind(out: &mut [u8], at: usize, k: Kind) -> usize
-    requires { at + 8 ≤ length out.old }
-    ensures { Short 8 out.old at (kind_text k) out.new result }
+fn kind(line: &mut Line, k: Kind)
+    requires { length line.old + 8 ≤ 256 }
+    ensures { Adds 8 line.old (kind_text k) line.new }
 {
     match k {
-        Kind::Can => lay(out, at, b" CAN"),
-        Kind::Lin => lay(out, at, b" LIN"),
-        Kind::FlexRay => lay(out, at, b" FLEXRAY"),
+        Kind::Can => lay(line, b" CAN"),
+        Kind::Lin => lay(line, b" LIN"),
+        Kind::FlexRay => lay(line, b" FLEXRAY"),
     }
 }
 
@@ -130,32 +130,17 @@ fn is_fd(id: Ident) -> bool
 {
     match id {
         Ident::Can(key) => codec::ident::can_fd(key),
-        Ident::Lin(_) => false,
-        Ident::FlexRay {
-            channels: _,
-            slot: _,
-            cycle: _,
-        } => false,
-        Ident::FlexRayError(_) => false,
-        Ident::Bare(_) => false,
+        _ => false,
     }
 }
 
 #[tactic(auto, unfolding(crate::specs::Line::bus_text))]
-pub(crate) fn bus(out: &mut [u8], at: usize, id: Ident) -> usize
-    requires { at + 10 ≤ length out.old }
-    ensures { Short 10 out.old at (bus_text id) out.new result }
+pub(crate) fn bus(line: &mut Line, id: Ident)
+    requires { length line.old + 10 ≤ 256 }
+    ensures { Adds 10 line.old (bus_text id) line.new }
 {
-    let a = kind(out, at, codec::ident::kind_of(id));
-    shown(out, a, is_fd(id), b"FD")
-}
-
-// Bit 31 of a CAN key: an extended id.
-#[tactic(auto, unfolding(crate::specs::Line::id_digits))]
-fn id_digits(key: u32) -> usize
-    ensures { Below (id_digits key) 9 result }
-{
-    if key >> 31 == 1 { 8 } else { 3 }
+    kind(line, codec::ident::kind_of(id));
+    shown(line, is_fd(id), b"FD");
 }
 
 // The three bits above are of its type.
@@ -165,79 +150,85 @@ fn can_id(key: u32) -> u32
     key & 0x1fff_ffff
 }
 
-#[tactic(auto, unfolding(crate::specs::Line::can_text))]
-fn can(out: &mut [u8], at: usize, key: u32) -> usize
-    requires { at + 9 ≤ length out.old }
-    ensures { Short 9 out.old at (can_text key) out.new result }
+// Bit 31 of a CAN key: an extended id.
+#[tactic(auto, unfolding(crate::specs::Line::can_text, crate::specs::Line::id_digits))]
+fn can(line: &mut Line, key: u32)
+    requires { length line.old + 9 ≤ 256 }
+    ensures { Adds 9 line.old (can_text key) line.new }
 {
-    hex(out, at, id_digits(key), can_id(key) as u64)
+    let id = can_id(key) as u64;
+    if key >> 31 == 1 {
+        hex::<8>(line, id);
+    } else {
+        hex::<3>(line, id);
+    }
 }
 
 #[tactic(auto, unfolding(crate::specs::Line::channels_text))]
-fn channels(out: &mut [u8], at: usize, c: u8) -> usize
-    requires { at + 3 ≤ length out.old }
-    ensures { Short 3 out.old at (channels_text c) out.new result }
+fn channels(line: &mut Line, c: u8)
+    requires { length line.old + 3 ≤ 256 }
+    ensures { Adds 3 line.old (channels_text c) line.new }
 {
-    let start = lay(out, at, b" ");
-    let a = shown(out, start, c % 2 == 1, b"A");
-    shown(out, a, c / 2 % 2 == 1, b"B")
+    lay(line, b" ");
+    shown(line, c % 2 == 1, b"A");
+    shown(line, c / 2 % 2 == 1, b"B");
 }
 
 #[tactic(auto, unfolding(crate::specs::Line::flexray_text))]
-fn flexray(out: &mut [u8], at: usize, c: u8, slot: u16, cycle: u8) -> usize
-    requires { at + 45 ≤ length out.old }
-    ensures { Short 45 out.old at (flexray_text c slot cycle) out.new result }
+fn flexray(line: &mut Line, c: u8, slot: u16, cycle: u8)
+    requires { length line.old + 45 ≤ 256 }
+    ensures { Adds 45 line.old (flexray_text c slot cycle) line.new }
 {
-    let a = channels(out, at, c);
-    let b = lay(out, a, b":");
-    let d = number(out, b, slot as u64);
-    let e = lay(out, d, b":");
-    number(out, e, cycle as u64)
+    channels(line, c);
+    lay(line, b":");
+    number(line, slot as u64);
+    lay(line, b":");
+    number(line, cycle as u64);
 }
 
 #[tactic(auto, unfolding(crate::specs::Line::error_text))]
-fn error(out: &mut [u8], at: usize, c: u8) -> usize
-    requires { at + 7 ≤ length out.old }
-    ensures { Short 7 out.old at (error_text c) out.new result }
+fn error(line: &mut Line, c: u8)
+    requires { length line.old + 7 ≤ 256 }
+    ensures { Adds 7 line.old (error_text c) line.new }
 {
-    let a = channels(out, at, c);
-    lay(out, a, b":-:-")
+    channels(line, c);
+    lay(line, b":-:-");
 }
 
-pub(crate) fn ident(out: &mut [u8], at: usize, id: Ident) -> usize
-    requires { at + 45 ≤ length out.old }
-    ensures { Short 45 out.old at (ident_text id) out.new result }
+pub(crate) fn ident(line: &mut Line, id: Ident)
+    requires { length line.old + 45 ≤ 256 }
+    ensures { Adds 45 line.old (ident_text id) line.new }
 {
     match id {
-        Ident::Can(key) => can(out, at, key),
-        Ident::Lin(pid) => hex(out, at, 2, pid as u64),
+        Ident::Can(key) => can(line, key),
+        Ident::Lin(pid) => hex::<2>(line, pid as u64),
         Ident::FlexRay {
             channels: c,
             slot,
             cycle,
-        } => flexray(out, at, c, slot, cycle),
-        Ident::FlexRayError(c) => error(out, at, c),
-        Ident::Bare(_) => lay(out, at, b" -"),
+        } => flexray(line, c, slot, cycle),
+        Ident::FlexRayError(c) => error(line, c),
+        Ident::Bare(_) => dash(line),
     }
 }
 
-pub(crate) fn state(out: &mut [u8], at: usize, s: State) -> usize
-    requires { at + 9 ≤ length out.old }
-    ensures { Short 9 out.old at (state_text s) out.new result }
+pub(crate) fn state(line: &mut Line, shown: Option<u8>)
+    requires { length line.old + 9 ≤ 256 }
+    ensures { Adds 9 line.old (state_text shown) line.new }
 {
-    match s {
-        State::Byte(b) => hex(out, at, 2, b as u64),
-        State::Absent => lay(out, at, b" -"),
+    match shown {
+        Some(state) => hex::<2>(line, state as u64),
+        None => dash(line),
     }
 }
 
-pub(crate) fn load(out: &mut [u8], at: usize, carries: bool, n: usize) -> usize
-    requires { at + 21 ≤ length out.old }
-    ensures { Short 21 out.old at (load_text carries n) out.new result }
+pub(crate) fn load(line: &mut Line, carries: bool, n: usize)
+    requires { length line.old + 21 ≤ 256 }
+    ensures { Adds 21 line.old (load_text carries n) line.new }
 {
     if carries {
-        field(out, at, n as u64)
+        field(line, n as u64);
     } else {
-        lay(out, at, b" -")
+        dash(line);
     }
 }

@@ -9,6 +9,8 @@ use Rattle.recording.specs.File.{Finding, findings_of, listing_of, skips}
 use Rattle.recording.specs.Trip.{good}
 use Rattle.recording.specs.Pieces.{fresh, sound_of}
 use Rattle.recording.specs.Calls.{on_pieces, join}
+use Rattle.std.specs.Prelude.{Result, Ok, Err}
+use Rattle.recording.specs.declared.error.RecordError.{RecordError}
 use Rattle.recording.specs.declared.field.Found.{Found}
 use Rattle.recording.specs.declared.pieces.Place.{Place}
 use Rattle.recording.proofs.PlaceLaws.{sound_same}
@@ -27,12 +29,12 @@ record Same (fs : List Finding) : Type 0 where
   bads : count_of bad (stayed fs) ≡ 0
   unknowns : skips (stayed fs) ≡ skips fs
 
-same_more : (f : Finding) (fs : List Finding) (x : Found) → f.found ≡ x → Same fs → Same (f ∷ fs)
-same_more f fs (Found.Frame h) e i = record { goods = simp (e, i.goods); bads = simp (e, i.bads); unknowns = simp (e, i.unknowns) }
-same_more f fs Found.Note e i = record { goods = simp (e, i.goods); bads = simp (e, i.bads); unknowns = simp (e, i.unknowns) }
-same_more f fs (Found.Start t) e i = record { goods = simp (e, i.goods); bads = simp (e, i.bads); unknowns = simp (e, i.unknowns) }
-same_more f fs (Found.Refused answer) e i = record { goods = simp (e, i.goods) (omega arith); bads = simp (e, i.bads); unknowns = simp (e, i.unknowns) (omega arith) }
-same_more f fs Found.Skipped e i = record { goods = simp (e, i.goods); bads = simp (e, i.bads); unknowns = simp (e, i.unknowns) }
+same_more : (f : Finding) (fs : List Finding) (x : Result Found RecordError) → f.found ≡ x → Same fs → Same (f ∷ fs)
+same_more f fs (Ok (Found.Frame h)) e i = record { goods = simp (e, i.goods); bads = simp (e, i.bads); unknowns = simp (e, i.unknowns) }
+same_more f fs (Ok Found.Note) e i = record { goods = simp (e, i.goods); bads = simp (e, i.bads); unknowns = simp (e, i.unknowns) }
+same_more f fs (Ok (Found.Start t)) e i = record { goods = simp (e, i.goods); bads = simp (e, i.bads); unknowns = simp (e, i.unknowns) }
+same_more f fs (Ok Found.Skipped) e i = record { goods = simp (e, i.goods); bads = simp (e, i.bads); unknowns = simp (e, i.unknowns) }
+same_more f fs (Err why) e i = record { goods = simp (e, i.goods) (omega arith); bads = simp (e, i.bads); unknowns = simp (e, i.unknowns) (omega arith) }
 
 same : (fs : List Finding) → Same fs
 same [] = record { goods = refl; bads = refl; unknowns = refl }
@@ -48,7 +50,7 @@ check_of_copy s =
     rw (m.findings, m.left, n.goods, n.bads, n.unknowns)
 
 -- The listing of the copy: the findings that stay, 0 at the end, and as many skipped fields as there were.
-pub list_of_copy : (s : List ℕ) → listing_of (copy_of s) ≡ record { findings = stayed (findings_of s); answer = 0; skipped = (listing_of s).skipped }
+pub list_of_copy : (s : List ℕ) → listing_of (copy_of s) ≡ record { findings = stayed (findings_of s); answer = Ok tt; skipped = (listing_of s).skipped }
 unfolding listing_of
 list_of_copy s =
     let m = mended s in

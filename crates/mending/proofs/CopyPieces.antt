@@ -14,7 +14,8 @@ use Rattle.recording.specs.File.{Finding, keeps, size_in, complete, first, left_
 use Rattle.recording.specs.Pieces.{fresh, sound_of, next_of, kept_of}
 use Rattle.recording.specs.Calls.{noted, join}
 use Rattle.recording.specs.declared.pieces.Place.{Place}
-use Rattle.recording.specs.declared.pieces.Seen.{Seen}
+use Rattle.std.specs.Prelude.{Option, Some, None}
+use Rattle.recording.specs.declared.field.Field.{Field}
 use Rattle.recording.proofs.PlaceLaws.{sound_same, used_is, uses_most}
 use Rattle.recording.proofs.FileLaws.{there, body-length, left_more, left_end, left_append}
 use Rattle.recording.proofs.HeldLaws.{Holds, holds_none, held_cut, take-over, went, ended}
@@ -23,13 +24,13 @@ use Rattle.mending.specs.Calls.{held_of, kept_in, kept_seen, Copied, none, behin
 use Rattle.mending.proofs.CopyLaws.{front_kept, copy_more, copy_end, copy_append}
 
 -- a call that found a field has its bytes, or none of them, as the finding says
-found_kept : (x : Seen) (buffer hold : List ℕ) (g : Finding) → noted x buffer ≡ g ∷ []
+found_kept : (x : Option Field) (buffer hold : List ℕ) (g : Finding) → noted x buffer ≡ g ∷ []
     → kept_seen x hold ≡ pick (stays g.found) (take (3 + g.size) hold) []
 unfolding kept_in
-found_kept (Seen.Field f) buffer hold g e =
+found_kept (Some f) buffer hold g e =
     let q : ◌≡◌ {A = Finding} (record { tag = f.tag; size = f.length; found = f.found; body = pick (keeps f.tag f.length) (take f.length buffer) [] }) g = cc in
     ap (λ (k : Finding). pick (stays k.found) (take (3 + k.size) hold) []) q
-found_kept Seen.More buffer hold g e = never (cc)
+found_kept None buffer hold g e = never (cc)
 
 -- one call, u being read and held
 module _ (p : Place) (buffer hold u t : List ℕ) (h : Holds p buffer u) (k : take (length u) hold ≡ u) where

@@ -1,6 +1,6 @@
 -- Laws of what is held of the field under way. Assumes nothing.
 use Prim.Native.Nat.{ℕ, zero, suc, ◌+◌, ◌-◌, ◌≤◌}
-use mathlib.Core.Path.{◌≡◌, refl, ◌∙◌, ap}
+use mathlib.Core.Path.{◌≡◌, ◌∙◌, ap}
 use mathlib.Core.Bool.{Bool, true, false}
 use mathlib.Core.List.{List, [], ◌∷◌}
 use native.Mathlib.Omega.{arith}
@@ -8,15 +8,13 @@ use lib.ListN.{length, take, get_or, length-take}
 use lib.Dec.{ltb}
 use Rattle.codec.specs.Choice.{pick}
 use Rattle.codec.specs.Number.{Bytes, Wrote}
-use Rattle.codec.specs.declared.number.Put.{Put}
+use Rattle.std.specs.Prelude.{Option}
 use Rattle.codec.proofs.NumberLaws.{kept}
 use Rattle.recording.specs.Pieces.{fresh, size_of, sound_of, head_byte, headed_of, place_of, used_of, next_of}
 use Rattle.recording.specs.declared.pieces.Place.{Place}
 use Rattle.recording.specs.declared.pieces.Step.{Step}
 use Rattle.recording.proofs.PlaceLaws.{used_is, place_short}
-use Rattle.recording.specs.declared.field.Field.{Field}
-use Rattle.mending.specs.Copy.{stays}
-use Rattle.mending.specs.Calls.{held_of, kept_in}
+use Rattle.mending.specs.Calls.{held_of}
 
 -- a place of bytes stays one
 get_byte : (s : List ℕ) (i d : ℕ) → Bytes s → d ≤ 255 → get_or s i d ≤ 255
@@ -52,7 +50,7 @@ module _ (p : Place) (piece : List ℕ) (b : Bytes piece) (h : p.high ≤ 255) (
       omega arith
 
   -- so that it always finds room
-  pub held_by : {hold hold' bs : List ℕ} {at : ℕ} {w : Put} {r : Step} (buffer : List ℕ)
+  pub held_by : {hold hold' bs : List ℕ} {at : ℕ} {w : Option ℕ} {r : Step} (buffer : List ℕ)
       → length hold ≡ 65538 → at ≡ (sound_of p).past → r ≡ next_of p buffer piece → bs ≡ take r.used piece → Wrote true hold at bs hold' w
       → hold' ≡ held_of p hold piece
   unfolding held_of
@@ -62,12 +60,3 @@ module _ (p : Place) (piece : List ℕ) (b : Bytes piece) (h : p.high ≤ 255) (
       let q : bs ≡ take (used_of (place_of p piece) (length piece)) piece = g ∙ ap (λ (i : ℕ). take i piece) u in
       let a : length bs ≤ used_of (place_of p piece) (length piece) = rw (q, length-take) (omega arith) in
       kept k (omega arith) ∙ rw (e, q)
-
--- all of a field or nothing
-pub kept_is : {r : List ℕ} {n : ℕ} (f : Field) (hold : List ℕ) → n ≡ pick (stays f.found) (3 + f.length) 0 → r ≡ take n hold → r ≡ kept_in f hold
-unfolding kept_in
-kept_is f hold e g = g ∙ rw e (go (stays f.found))
-  where
-    go : (b : Bool) → take (pick b (3 + f.length) 0) hold ≡ pick b (take (3 + f.length) hold) []
-    go true = refl
-    go false = refl

@@ -1,5 +1,5 @@
 -- What the calls come to that check and mend a file in pieces: on the rest of each piece until it is used up, then on the next.
-use Rattle.std.specs.Prelude.{ℕ, zero, suc, ◌+◌, List, [], ◌∷◌, ◌++◌, length, take, drop, eqb}
+use Rattle.std.specs.Prelude.{ℕ, zero, suc, ◌+◌, Option, Some, None, List, [], ◌∷◌, ◌++◌, length, take, drop, eqb}
 use Rattle.codec.specs.Choice.{pick}
 use Rattle.codec.specs.Number.{over}
 use Rattle.recording.specs.File.{Finding}
@@ -7,7 +7,6 @@ use Rattle.recording.specs.Pieces.{fresh, sound_of, place_of, used_of, next_of, 
 use Rattle.recording.specs.Calls.{Ran, on_pieces}
 use Rattle.recording.specs.declared.field.Field.{Field}
 use Rattle.recording.specs.declared.pieces.Place.{Place}
-use Rattle.recording.specs.declared.pieces.Seen.{Seen}
 use Rattle.mending.specs.Copy.{stays}
 use Rattle.mending.specs.Check.{tallied, report_of}
 use Rattle.mending.specs.declared.check.Tally.{Tally}
@@ -20,9 +19,9 @@ held_of p hold piece = over hold (sound_of p).past (take (used_of (place_of p pi
 unfoldable pub kept_in : Field → List ℕ → List ℕ
 kept_in f hold = pick (stays f.found) (take (3 + f.length) hold) []
 
-abbrev pub kept_seen : Seen → List ℕ → List ℕ
-kept_seen (Seen.Field f) hold = kept_in f hold
-kept_seen Seen.More hold = []
+abbrev pub kept_seen : Option Field → List ℕ → List ℕ
+kept_seen (Some f) hold = kept_in f hold
+kept_seen None hold = []
 
 -- what the caller has after some calls
 pub record Copied : Type 0 where

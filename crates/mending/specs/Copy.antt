@@ -1,16 +1,17 @@
 -- The mended copy of a recording (docs/RULES.md, "Mending"): its good fields and its unknown ones, byte for byte and in order.
-use Rattle.std.specs.Prelude.{ℕ, ◌+◌, ◌≡◌, Bool, true, false, List, [], ◌∷◌, ◌++◌, length, take, drop}
+use Rattle.std.specs.Prelude.{ℕ, ◌+◌, ◌≡◌, Result, Ok, Err, Bool, true, false, List, [], ◌∷◌, ◌++◌, length, take, drop}
 use Rattle.codec.specs.Choice.{pick}
 use Rattle.recording.specs.File.{Raw, Finding, fields_of, finding_of}
+use Rattle.recording.specs.declared.error.RecordError.{RecordError}
 use Rattle.recording.specs.declared.field.Found.{Found}
 
 -- a field that the copy keeps: a good one, or one whose tag is not ours
-abbrev pub stays : Found → Bool
-stays (Found.Frame h) = true
-stays Found.Note = true
-stays (Found.Start t) = true
-stays (Found.Refused answer) = false
-stays Found.Skipped = true
+abbrev pub stays : Result Found RecordError → Bool
+stays (Ok (Found.Frame h)) = true
+stays (Ok Found.Note) = true
+stays (Ok (Found.Start t)) = true
+stays (Ok Found.Skipped) = true
+stays (Err why) = false
 
 -- how long a field is in the file: tag, length, body
 abbrev pub span_of : Raw → ℕ

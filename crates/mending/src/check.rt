@@ -2,84 +2,85 @@
 ghost use Rattle.std.specs.Prelude.{◌≡◌, true};
 ghost use Rattle.codec.specs.Number.{Wrote};
 ghost use Rattle.recording.specs.Pieces.{sound_of};
-ghost use Rattle.mending.specs.Check.{found_line, good_line, rest_text, fields_line, tallied};
+ghost use Rattle.mending.specs.Check.{name_of, found_line, rest_text, fields_line, tallied};
 
-use codec::number::Put;
+use recording::error::RecordError;
 use recording::field::{Field, Found};
 use recording::pieces::Place;
+use text::draft::Draft;
+
+// Room for any line: a name of at most 8 bytes and three numbers are 72.
+type Line = Draft<128>;
 
 // How many fields were good and how many bad. The unknown ones are counted by reading.
-#[derive(Drop)]
+#[derive(Clone, Copy)]
 pub struct Tally {
     pub good: u32,
     pub bad: u32,
 }
 
-pub fn count(tally: Tally, found: Found) -> Tally
+pub fn count(tally: Tally, found: Result<Found, RecordError>) -> Tally
     ensures { result ≡ tallied tally found }
 {
-    let good = Tally {
-        good: recording::pieces::one_more(tally.good),
-        bad: tally.bad,
-    };
     match found {
-        Found::Frame(_) => good,
-        Found::Note => good,
-        Found::Start(_) => good,
-        Found::Refused(_) => Tally {
-            good: tally.good,
-            bad: recording::pieces::one_more(tally.bad),
+        Ok(Found::Skipped) => tally,
+        Ok(_) => Tally {
+            good: tally.good.saturating_add(1),
+            ..tally
         },
-        Found::Skipped => tally,
+        Err(_) => Tally {
+            bad: tally.bad.saturating_add(1),
+            ..tally
+        },
     }
 }
 
-fn good(out: &mut [u8], at: usize, field: Field) -> Put
-    ensures { Wrote true out.old at (good_line field.tag field.length) out.new result }
+fn name(found: Found) -> &'static [u8]
+    ensures { result.now ≡ name_of found }
 {
-    crate::word::pair(out, at, b"good", field.tag as u64, field.length as u64)
+    match found {
+        Found::Skipped => b"unknown",
+        _ => b"good",
+    }
+}
+
+fn said(field: Field) -> Line
+    ensures { result ≡ found_line field.tag field.length field.found }
+{
+    let tag = field.tag as u64;
+    let length = field.length as u64;
+    match field.found {
+        Ok(found) => Line::row(name(found), &[tag, length]),
+        Err(why) => Line::row(b"bad", &[tag, u8::from(why) as u64, length]),
+    }
 }
 
 // The line of a field that is complete. An output that is too short for it is left as it was.
-pub fn line(out: &mut [u8], at: usize, field: Field) -> Put
+pub fn line(out: &mut [u8], at: usize, field: Field) -> Option<usize>
     ensures { Wrote true out.old at (found_line field.tag field.length field.found) out.new result }
 {
-    let found = field.found;
-    let tag = field.tag as u64;
-    let length = field.length as u64;
-    match found {
-        Found::Frame(_) => good(out, at, field),
-        Found::Note => good(out, at, field),
-        Found::Start(_) => good(out, at, field),
-        Found::Refused(answer) => {
-            crate::word::triple(out, at, b"bad", tag, answer as u64, length)
-        }
-        Found::Skipped => crate::word::pair(out, at, b"unknown", tag, length),
-    }
+    said(field).put(out, at)
 }
 
 // How many bytes the end has cut off from a field, where it has.
 #[tactic(auto, unfolding(crate::specs::Check::rest_text))]
-pub fn rest(out: &mut [u8], at: usize, place: Place) -> Put
+pub fn rest(out: &mut [u8], at: usize, place: Place) -> Option<usize>
     ensures { Wrote true out.old at (rest_text (sound_of place).past) out.new result }
 {
     let n = recording::pieces::inside(place);
     if n == 0 {
         return codec::number::put_bytes(out, at, b"");
     }
-    crate::word::pair(out, at, b"rest", 40, n as u64)
+    Line::row(b"rest", &[40, n as u64]).put(out, at)
 }
 
 // The last line. How many fields were unknown the place tells.
-pub fn fields(out: &mut [u8], at: usize, tally: Tally, place: Place) -> Put
+pub fn fields(out: &mut [u8], at: usize, tally: Tally, place: Place) -> Option<usize>
     ensures { Wrote true out.old at (fields_line tally place.skipped) out.new result }
 {
-    crate::word::triple(
-        out,
-        at,
+    Line::row(
         b"fields",
-        tally.good as u64,
-        tally.bad as u64,
-        place.skipped as u64,
+        &[tally.good as u64, tally.bad as u64, place.skipped as u64],
     )
+    .put(out, at)
 }

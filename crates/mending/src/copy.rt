@@ -1,12 +1,10 @@
 // The copy, made while the file is read in pieces. A field is held from its tag on until it is complete, so that
 // what is kept of it are its own bytes, and nothing is kept of one that the end cuts short.
-ghost use Rattle.std.specs.Prelude.{◌≡◌, ◌+◌};
+ghost use Rattle.std.specs.Prelude.{◌≡◌};
 ghost use Rattle.recording.specs.Pieces.{next_of, kept_of};
-ghost use Rattle.codec.specs.Choice.{pick};
-ghost use Rattle.mending.specs.Copy.{stays};
 ghost use Rattle.mending.specs.Calls.{held_of, kept_in};
 
-use recording::field::{Field, Found};
+use recording::field::Field;
 use recording::pieces::{Place, Step};
 
 // Goes on with the rest of a piece, as far as the end of one field or of the piece. After a finding the whole
@@ -23,23 +21,13 @@ pub fn next(place: Place, buffer: &mut [u8; 1472], hold: &mut [u8; 65538], piece
     step
 }
 
-// All of a field stays, or nothing.
-fn size(found: Found, length: u16) -> usize
-    ensures { result ≡ pick (stays found) (3 + length) 0 }
-{
-    match found {
-        Found::Frame(_) => 3 + length as usize,
-        Found::Note => 3 + length as usize,
-        Found::Start(_) => 3 + length as usize,
-        Found::Refused(_) => 0,
-        Found::Skipped => 3 + length as usize,
-    }
-}
-
-// What the copy has of a field that is complete: its bytes as they are held, or none where it is bad.
+// What the copy has of a field that is complete: all of its bytes as they are held, or none where it is bad.
+#[tactic(auto, unfolding(crate::specs::Calls::kept_in))]
 pub fn kept(field: Field, hold: &[u8]) -> &[u8]
     ensures { result.now ≡ kept_in field hold.now }
 {
-    let found = field.found;
-    text::part::front(hold, size(found, field.length))
+    match field.found {
+        Ok(_) => text::part::front(hold, 3 + field.length as usize),
+        Err(_) => &hold[..0],
+    }
 }

@@ -104,3 +104,7 @@ module _ (s : List ℕ) where
       → items_of s at ≡ record { item = d.item; payload = bytes_at s d.start d.len } ∷ items_of s d.next
   unfolding items_of
   items_item at h q = at_item [] (λ why. []) listed s at h q
+
+  pub items-bad : (at : ℕ) {why : Refusal} → at < length s → read_item s at ≡ Err why → items_of s at ≡ []
+  unfolding items_of
+  items-bad at h q = at-bad [] (λ why. []) listed s at h q

@@ -5,45 +5,31 @@ use mathlib.Core.Bool.{Bool, true, false, ◌&&◌}
 use mathlib.Core.List.{List, [], ◌∷◌}
 use native.Mathlib.Numerals.{add-one}
 use native.Mathlib.Omega.{arith}
-use lib.ListN.{length, get_or, drop, set, length-set, length-drop, drop_of_length-le}
+use Rattle.std.proofs.Common.{rules}
+use lib.ListN.{length, get_or, drop, set, length-set, length-drop}
 use lib.Seq.{drop-cons, sets, sets-eq}
 use lib.Dec.{leb, ltb, eqb}
-use borrow.Author.Tests.{le-leb, lt-leb, lt-ltb, le-ltb, ltb-true, eq-eqb, ne_eqb}
+use borrow.Author.Tests.{le-leb, lt-leb, lt-ltb, ltb-true, eq-eqb, ne_eqb}
 use Rattle.codec.proofs.BoolLaws.{and_false, and_l, and_r}
-use Rattle.text.specs.Digit.{digit_of, all_below}
+use Rattle.text.specs.Digit.{digit_of, hex_digit_of, all_below}
+use Rattle.text.proofs.DigitLaws.{worth, has_worth}
 use Rattle.codec.specs.Number.{over}
 use Rattle.text.specs.Line.{same_of}
 use Rattle.text.specs.Bytes.{pairs, spells, Filled}
-use Rattle.text.specs.declared.bytes.Bytes.{Bytes}
-
--- the first i are digits
-pub record Judging (s : List ℕ) (i : ℕ) : Type 0 where
-  pub most : i ≤ length s
-  pub left : all_below 16 s ≡ all_below 16 (drop i s)
-
-pub judging_first : (s : List ℕ) → Judging s 0
-judging_first s = record { most = omega arith; left = refl }
-
-pub judging_more : {s : List ℕ} {i : ℕ} (d : ℕ) → Judging s i → i < length s → d ≡ digit_of (get_or s i 0) → d < 16 → Judging s (i + 1)
-judging_more {s} {i} d j h e b =
-    let p : all_below 16 (drop i s) ≡ all_below 16 (drop (i + 1) s) = rw (add-one, drop-cons s i 0 h, ← e, lt-ltb d 16 b) in
-    record { most = omega arith; left = j.left ∙ p }
-
-pub judging_wrong : {s : List ℕ} {i : ℕ} (d : ℕ) → Judging s i → i < length s → d ≡ digit_of (get_or s i 0) → 16 ≤ d → false ≡ all_below 16 s
-judging_wrong {s} {i} d j h e b =
-    let p : all_below 16 (drop i s) ≡ false = rw (drop-cons s i 0 h, ← e, le-ltb d 16 b) in
-    sym (j.left ∙ p)
-
-pub judging_end : {s : List ℕ} {i : ℕ} → Judging s i → length s ≤ i → true ≡ all_below 16 s
-judging_end {s} {i} j h =
-    let p : all_below 16 (drop i s) ≡ true = rw (drop_of_length-le s h) in
-    sym (j.left ∙ p)
+use Rattle.std.specs.Prelude.{Option, Some, None, IsSome}
 
 -- each digit by itself
 pub digit_at : (s : List ℕ) (i : ℕ) → all_below 16 s ≡ true → i < length s → digit_of (get_or s i 0) < 16
 digit_at [] i e h = absurd (omega arith)
 digit_at (c ∷ cs) zero e h = ltb-true (digit_of c) 16 (and_l (ltb (digit_of c) 16) (all_below 16 cs) e)
 digit_at (c ∷ cs) (suc j) e h = digit_at cs j (and_r (ltb (digit_of c) 16) (all_below 16 cs) e) (omega arith)
+
+-- and so each has a worth
+pub some_worth : (s : List ℕ) (i : ℕ) {r : Option ℕ} → all_below 16 s ≡ true → i < length s → r ≡ hex_digit_of (get_or s i 0) → IsSome r
+some_worth s i e h q = rw (q, has_worth (get_or s i 0) (digit_at s i e h)) (search rules)
+
+pub worth_at : (s : List ℕ) (i d : ℕ) {r : Option ℕ} → r ≡ hex_digit_of (get_or s i 0) → r ≡ Some d → (d ≡ digit_of (get_or s i 0)) × (d < 16)
+worth_at s i d q e = worth (get_or s i 0) d (sym q ∙ e)
 
 pub pairs-length : (w : List ℕ) → length (pairs w) ≡ length w / 2
 pairs-length [] = refl
@@ -82,15 +68,15 @@ laying_end {w} {l} {out} {i} g h f =
     sym (g.left ∙ ap (sets out i) p) ∙ sets-eq (pairs w) l 0 (omega (arith, pairs-length w))
 
 -- the answers
-pub filled_wrong : {good : Bool} {bs l : List ℕ} → good ≡ false → Filled good bs l l Bytes.Bad
+pub filled_wrong : {good : Bool} {bs l : List ℕ} → good ≡ false → Filled good bs l l None
 filled_wrong e = record { list = rw e; answer = rw e }
 
-pub filled_small : {good : Bool} {bs l : List ℕ} → length l < length bs → Filled good bs l l Bytes.Bad
+pub filled_small : {good : Bool} {bs l : List ℕ} → length l < length bs → Filled good bs l l None
 filled_small {good} {bs} {l} h =
     let e : good && leb (length bs) (length l) ≡ false = rw (lt-leb (length bs) (length l) h) (and_false good) in
     record { list = rw e; answer = rw e }
 
-pub filled : {good : Bool} {bs l l' : List ℕ} {n : ℕ} → good ≡ true → length bs ≤ length l → l' ≡ over l 0 bs → n ≡ length bs → Filled good bs l l' (Bytes.Are n)
+pub filled : {good : Bool} {bs l l' : List ℕ} {n : ℕ} → good ≡ true → length bs ≤ length l → l' ≡ over l 0 bs → n ≡ length bs → Filled good bs l l' (Some n)
 filled {good} {bs} {l} {l'} {n} g h e k =
     let t : leb (length bs) (length l) ≡ true = le-leb (length bs) (length l) h in
     record { list = rw (g, t) e; answer = rw (g, t, k) }
@@ -101,7 +87,7 @@ dash-none [] e = refl
 dash-none (x ∷ []) e = refl
 dash-none (x ∷ y ∷ zs) e = let z : false ≡ true = and_r (eqb x 45) false e in cc
 
-pub dashed : {l : List ℕ} (w : List ℕ) → same_of w (45 ∷ []) ≡ true → Filled (spells w) (pairs w) l l (Bytes.Are 0)
+pub dashed : {l : List ℕ} (w : List ℕ) → same_of w (45 ∷ []) ≡ true → Filled (spells w) (pairs w) l l (Some 0)
 unfolding spells
 dashed {l} w e = rw (dash-none w e) (filled (rw e) (omega arith) refl refl)
 

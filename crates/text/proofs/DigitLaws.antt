@@ -1,44 +1,79 @@
 -- What a byte is worth, by the range that it lies in. Assumes nothing.
 use Prim.Native.Nat.{ℕ, ◌-◌, ◌≤◌, ◌<◌}
 use native.Mathlib.Omega.{arith}
-use borrow.Author.Tests.{le-leb, lt-leb, lt-ltb, le-ltb}
-use Rattle.codec.specs.Number.{Below}
-use Rattle.text.specs.Digit.{digit_of}
+use mathlib.Core.Path.{◌≡◌, refl, sym}
+use lib.Dec.{ltb}
+use Rattle.std.proofs.lemmas.Bool.Decides.{nat_tests}
+use borrow.Author.Tests.{lt-ltb, ltb-true, ltb-false}
+use mathlib.Core.Bool.{Bool, true, false}
+use mathlib.Core.List.{List, [], ◌∷◌}
+use Rattle.std.specs.List.{list_all}
+use Rattle.std.specs.Char.{digit_value, is_ascii_hexdigit}
+use Rattle.std.specs.Prelude.{Option, Some, None, SomeIff}
+use Rattle.text.specs.Digit.{digit_of, hex_digit_of, all_below}
 
-pub before_0 : (c : ℕ) → c < 48 → Below (digit_of c) 17 16
+pub from_0 : (c : ℕ) → 48 ≤ c → c ≤ 57 → digit_of c ≡ c - 48
 unfolding digit_of
-before_0 c h = record { is = rw (lt-ltb c 48 h); below = omega arith }
+from_0 c h k = grind (arith, nat_tests)
 
-pub from_0 : (c : ℕ) → 48 ≤ c → c ≤ 57 → Below (digit_of c) 17 (c - 48)
+pub from_a : (c : ℕ) → 97 ≤ c → c ≤ 102 → digit_of c ≡ c - 87
 unfolding digit_of
-from_0 c h k = record { is = rw (le-ltb c 48 h, le-leb c 57 k); below = omega arith }
+from_a c h k = grind (arith, nat_tests)
 
-pub before_A : (c : ℕ) → 57 < c → c < 65 → Below (digit_of c) 17 16
+pub after_f : (c : ℕ) → 102 < c → digit_of c ≡ 16
 unfolding digit_of
-before_A c h k = record { is = rw (le-ltb c 48 (omega arith), lt-leb c 57 h, lt-ltb c 65 k); below = omega arith }
+after_f c h = grind (arith, nat_tests)
 
-pub from_A : (c : ℕ) → 65 ≤ c → c ≤ 70 → Below (digit_of c) 17 (c - 55)
+-- against the library's words
+agree : (c : ℕ) → digit_value c < 16 → digit_of c ≡ digit_value c
 unfolding digit_of
-from_A c h k =
-    record { is = rw (le-ltb c 48 (omega arith), lt-leb c 57 (omega arith), le-ltb c 65 h, le-leb c 70 k); below = omega arith }
+agree c h = grind (arith, nat_tests)
 
-pub before_a : (c : ℕ) → 70 < c → c < 97 → Below (digit_of c) 17 16
+past : (c : ℕ) → 16 ≤ digit_value c → digit_of c ≡ 16
 unfolding digit_of
-before_a c h k = record {
-  is = rw (le-ltb c 48 (omega arith), lt-leb c 57 (omega arith), le-ltb c 65 (omega arith), lt-leb c 70 h, lt-ltb c 97 k);
-  below = omega arith;
-}
+past c h = grind (arith, nat_tests)
 
-pub from_a : (c : ℕ) → 97 ≤ c → c ≤ 102 → Below (digit_of c) 17 (c - 87)
+hexadecimal : (c : ℕ) → is_ascii_hexdigit c ≡ ltb (digit_of c) 16
 unfolding digit_of
-from_a c h k = record {
-  is = rw (le-ltb c 48 (omega arith), lt-leb c 57 (omega arith), le-ltb c 65 (omega arith), lt-leb c 70 (omega arith), le-ltb c 97 h, le-leb c 102 k);
-  below = omega arith;
-}
+hexadecimal c = grind (arith, nat_tests)
 
-pub after_f : (c : ℕ) → 102 < c → Below (digit_of c) 17 16
-unfolding digit_of
-after_f c h = record {
-  is = rw (le-ltb c 48 (omega arith), lt-leb c 57 (omega arith), le-ltb c 65 (omega arith), lt-leb c 70 (omega arith), le-ltb c 97 (omega arith), lt-leb c 102 h);
-  below = omega arith;
-}
+pub all_hexadecimal : (s : List ℕ) → list_all (λ c. is_ascii_hexdigit c) s ≡ all_below 16 s
+all_hexadecimal [] = refl
+all_hexadecimal (c ∷ cs) = rw (hexadecimal c, all_hexadecimal cs)
+
+-- the library's digit
+pub digit_none : (c : ℕ) {x : ℕ} {r : Option ℕ} → x ≡ c → r ≡ None → SomeIff r (digit_value x < 16) (digit_value x) → None ≡ hex_digit_of c
+unfolding hex_digit_of
+digit_none c q e h =
+    let k : digit_value c < 16 → ⊥ = rw (e, q) at h in
+    rw (past c (omega (arith, k)))
+
+pub digit_some : (c d : ℕ) {x : ℕ} {r : Option ℕ} → x ≡ c → r ≡ Some d → SomeIff r (digit_value x < 16) (digit_value x) → Some d ≡ hex_digit_of c
+unfolding hex_digit_of
+digit_some c d q e h =
+    let k : (digit_value c < 16) × (d ≡ digit_value c) = rw (e, q) at h in
+    let w = agree c k.0 in
+    let z : digit_of c < 16 = omega arith in
+    rw (lt-ltb (digit_of c) 16 z, w, ← k.1)
+
+-- what a digit says
+pub worth : (c d : ℕ) → hex_digit_of c ≡ Some d → (d ≡ digit_of c) × (d < 16)
+unfolding hex_digit_of
+worth c d h = go (ltb (digit_of c) 16) refl
+  where
+    go : (t : Bool) → ltb (digit_of c) 16 ≡ t → (d ≡ digit_of c) × (d < 16)
+    go true e = let q : digit_of c ≡ d = cc in let m = ltb-true (digit_of c) 16 e in (sym q, omega arith)
+    go false e = let z : None ≡ Some d = rw e at h in absurd (cc)
+
+pub no_worth : (c : ℕ) → hex_digit_of c ≡ None → 16 ≤ digit_of c
+unfolding hex_digit_of
+no_worth c h = go (ltb (digit_of c) 16) refl
+  where
+    go : (t : Bool) → ltb (digit_of c) 16 ≡ t → 16 ≤ digit_of c
+    go true e = let z : Some (digit_of c) ≡ None = rw e at h in absurd (cc)
+    go false e = ltb-false (digit_of c) 16 e
+
+-- every digit of a word that is bytes is worth something
+pub has_worth : (c : ℕ) → digit_of c < 16 → hex_digit_of c ≡ Some (digit_of c)
+unfolding hex_digit_of
+has_worth c h = rw (lt-ltb (digit_of c) 16 h)

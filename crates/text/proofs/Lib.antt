@@ -7,3 +7,4 @@ pub mod Unique
 pub mod RoundTrip
 pub mod Vectors
 pub mod ShortLaws
+pub mod DraftLaws

@@ -13,7 +13,7 @@ use Rattle.codec.proofs.NumberLaws.{full, wrote}
 use borrow.Author.Tests.{lt-ltb, le-ltb}
 use Rattle.codec.specs.Number.{over, Wrote}
 use Rattle.text.specs.Put.{letter_of, hexes, hex_of, decimals, decimal_of, Ends}
-use Rattle.codec.specs.declared.number.Put.{Put}
+use Rattle.std.specs.Prelude.{Some, None}
 
 -- hex: the digits of the first i of src stand at index at, up to index k
 pub record Hexing (l : List ℕ) (at : ℕ) (src out : List ℕ) (i k : ℕ) : Type 0 where
@@ -50,10 +50,10 @@ pub hex_none : (bs : List ℕ) → length bs ≡ 0 → hex_of bs ≡ 45 ∷ []
 hex_none [] e = refl
 hex_none (b ∷ bs) e = absurd (omega arith)
 
-pub hex_full : {l : List ℕ} {at : ℕ} (bs : List ℕ) → (length bs ≡ 0 → ⊥) → length l < at + 2 * length bs → Wrote true l at (hex_of bs) l Put.Nothing
+pub hex_full : {l : List ℕ} {at : ℕ} (bs : List ℕ) → (length bs ≡ 0 → ⊥) → length l < at + 2 * length bs → Wrote true l at (hex_of bs) l None
 hex_full {l} {at} bs p h = rw (hex_some bs p) (full (omega (arith, hexes-length bs)))
 
-pub hex_wrote : {l : List ℕ} {at : ℕ} {l' : List ℕ} (bs : List ℕ) → (length bs ≡ 0 → ⊥) → at + 2 * length bs ≤ length l → l' ≡ over l at (hexes bs) → Wrote true l at (hex_of bs) l' (Put.Next (at + 2 * length bs))
+pub hex_wrote : {l : List ℕ} {at : ℕ} {l' : List ℕ} (bs : List ℕ) → (length bs ≡ 0 → ⊥) → at + 2 * length bs ≤ length l → l' ≡ over l at (hexes bs) → Wrote true l at (hex_of bs) l' (Some (at + 2 * length bs))
 hex_wrote {l} {at} {l'} bs p h e =
     let n = hexes-length bs in
     rw (hex_some bs p, ← n) (wrote (omega arith) e)

@@ -1,6 +1,6 @@
 -- What is written is read back: the bytes of hexadecimal text, and the number of decimal text. Assumes nothing.
 use Prim.Native.Nat.{ℕ, zero, suc, ◌+◌, ◌*◌, ◌/◌, ◌%◌, ◌^◌, ◌≤◌, ◌<◌}
-use mathlib.Core.Path.{◌≡◌, refl, sym, ◌∙◌}
+use mathlib.Core.Path.{◌≡◌, refl, ◌∙◌}
 use mathlib.Core.Bool.{Bool, true, false, ◌&&◌, ◌||◌}
 use mathlib.Core.List.{List, [], ◌∷◌, ◌++◌}
 use native.Mathlib.Omega.{arith}
@@ -14,7 +14,7 @@ use Rattle.text.specs.Number.{value, rest_of, digits_of, hexed, number_of}
 use Rattle.text.specs.Put.{letter_of, hexes, hex_of, decimals, decimal_of}
 use Rattle.text.specs.Line.{same_of}
 use Rattle.text.specs.Bytes.{pairs, spells}
-use Rattle.text.specs.declared.number.Number.{Number}
+use Rattle.std.specs.Prelude.{Some}
 use Rattle.codec.proofs.BoolLaws.{and_false, and_l, and_r}
 use Rattle.text.proofs.DigitLaws.{from_0, from_a, after_f}
 use Rattle.text.proofs.PutLaws.{hexes-length}
@@ -27,10 +27,10 @@ letter_back d h = go (ltb d 10) refl
     go : (t : Bool) → ltb d 10 ≡ t → digit_of (letter_of d) ≡ d
     go true e =
         let k : d < 10 = ltb-true d 10 e in
-        rw e (sym (from_0 (d + 48) (omega arith) (omega arith)).is ∙ omega arith)
+        rw e (from_0 (d + 48) (omega arith) (omega arith) ∙ omega arith)
     go false e =
         let k : 10 ≤ d = ltb-false d 10 e in
-        rw e (sym (from_a (d + 87) (omega arith) (omega arith)).is ∙ omega arith)
+        rw e (from_a (d + 87) (omega arith) (omega arith) ∙ omega arith)
 
 pub pairs_back : (bs : List ℕ) → Bytes bs → pairs (hexes bs) ≡ bs
 pairs_back [] h = refl
@@ -71,7 +71,7 @@ below_snoc base (x ∷ xs) c e h =
     rw (and_l (ltb (digit_of x) base) (all_below base xs) e) (below_snoc base xs c (and_r (ltb (digit_of x) base) (all_below base xs) e) h)
 
 digit_back : (d : ℕ) → d < 10 → digit_of (d + 48) ≡ d
-digit_back d h = sym (from_0 (d + 48) (omega arith) (omega arith)).is ∙ omega arith
+digit_back d h = from_0 (d + 48) (omega arith) (omega arith) ∙ omega arith
 
 -- decimal text is digits, and they are worth the number
 pub record Worth (cs : List ℕ) (v : ℕ) : Type 0 where
@@ -112,10 +112,10 @@ not-hexed (a ∷ b ∷ cs) e =
     rw (ne_eqb b 120 (λ q. x-is-none b q k)) (and_false (leb 2 (length (a ∷ b ∷ cs)) && eqb a 48))
   where
     x-is-none : (c : ℕ) → c ≡ 120 → digit_of c < 10 → ⊥
-    x-is-none c q k = omega (arith, (after_f c (omega arith)).is)
+    x-is-none c q k = omega (arith, after_f c (omega arith))
 
 -- a number of 64 bits is read back from its decimal text
-pub decimal_back : (v most : ℕ) → v ≤ most → most < 2 ^ 64 → number_of (decimal_of v) most ≡ Number.Is v
+pub decimal_back : (v most : ℕ) → v ≤ most → most < 2 ^ 64 → number_of (decimal_of v) most ≡ Some v
 unfolding number_of digits_of rest_of decimal_of
 decimal_back v most h k =
     let w = decimals_worth 20 v (omega arith) in

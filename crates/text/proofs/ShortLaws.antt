@@ -4,38 +4,43 @@ use mathlib.Core.Path.{◌≡◌, refl, sym, ◌∙◌, ap}
 use mathlib.Core.Bool.{true}
 use mathlib.Core.List.{List, [], ◌++◌}
 use native.Mathlib.Omega.{arith}
+use Rattle.std.proofs.Common.{rules}
 use native.Mathlib.Nat.{zero-add}
 use lib.ListN.{length, take, drop, length-append}
 use lib.Seq.{take_at}
 use Rattle.codec.specs.Number.{over, Wrote}
-use Rattle.codec.specs.declared.number.Put.{Put}
+use Rattle.std.specs.Prelude.{Option, Some, None, IsSome}
 use Rattle.codec.proofs.NumberLaws.{hit, kept, chain, chain_put, from_laid, laid_none, length_over}
 use Rattle.codec.proofs.Opened.{never}
 use Rattle.text.specs.Short.{Short}
 
 -- a write that had room
-pub short_put : {l : List ℕ} {at : ℕ} {bs l' : List ℕ} {p : Put} (k : ℕ) → Wrote true l at bs l' p → at + length bs ≤ length l → length bs ≤ k
+pub short_put : {l : List ℕ} {at : ℕ} {bs l' : List ℕ} {p : Option ℕ} (k : ℕ) → Wrote true l at bs l' p → at + length bs ≤ length l → length bs ≤ k
     → Short k l at bs l' (at + length bs)
 short_put {l} {at} {bs} {l'} k w h m =
     let e : l' ≡ over l at bs = kept w h in
     record { laid = record { list = e; next = refl }; most = omega arith; fits = h; kept = ap length e ∙ length_over l at bs h }
 
-next_is : {l : List ℕ} {at : ℕ} {bs l' : List ℕ} {p : Put} → Wrote true l at bs l' p → at + length bs ≤ length l → p ≡ Put.Next (at + length bs)
+next_is : {l : List ℕ} {at : ℕ} {bs l' : List ℕ} {p : Option ℕ} → Wrote true l at bs l' p → at + length bs ≤ length l → p ≡ Some (at + length bs)
 next_is w h = w.answer ∙ sym (hit _ _ _ _ _ h refl)
 
 -- a text of at most k characters always finds k places
-module _ {l : List ℕ} {at : ℕ} {bs l' : List ℕ} {p : Put} (k : ℕ) (w : Wrote true l at bs l' p) (m : length bs ≤ k) (h : at + k ≤ length l) where
+module _ {l : List ℕ} {at : ℕ} {bs l' : List ℕ} {p : Option ℕ} (k : ℕ) (w : Wrote true l at bs l' p) (m : length bs ≤ k) (h : at + k ≤ length l) where
   room : at + length bs ≤ length l
   room = omega arith
 
-  pub put_next : {n : ℕ} → p ≡ Put.Next n → Short k l at bs l' n
+  pub put_next : {n : ℕ} → p ≡ Some n → Short k l at bs l' n
   put_next {n} e =
-      let q : Put.Next (at + length bs) ≡ Put.Next n = sym (next_is w room) ∙ e in
+      let q : Some (at + length bs) ≡ Some n = sym (next_is w room) ∙ e in
       let z : at + length bs ≡ n = cc in
       rw (← z) (short_put k w room m)
 
-  pub put_nothing : {G : Type 0} → p ≡ Put.Nothing → G
-  put_nothing e = let q : Put.Next (at + length bs) ≡ Put.Nothing = sym (next_is w room) ∙ e in never (cc)
+  -- so the write may be unwrapped
+  pub put_some : IsSome p
+  put_some = rw (next_is w room) (search rules)
+
+  pub put_nothing : {G : Type 0} → p ≡ None → G
+  put_nothing e = let q : Some (at + length bs) ≡ None = sym (next_is w room) ∙ e in never (cc)
 
 -- one after the other
 pub short_then : {j n : ℕ} {l : List ℕ} {at : ℕ} {xs ys m l' : List ℕ} {k r : ℕ} → Short j l at xs m k → Short n m k ys l' r → Short (j + n) l at (xs ++ ys) l' r
@@ -64,7 +69,7 @@ pub short_none : (l : List ℕ) (at k : ℕ) → at ≤ length l → Short k l a
 short_none l at k h = record { laid = laid_none refl; most = omega arith; fits = omega arith; kept = refl }
 
 -- what was laid is written
-pub short_wrote : {k : ℕ} {l : List ℕ} {at : ℕ} {bs l' : List ℕ} {r : ℕ} → Short k l at bs l' r → Wrote true l at bs l' (Put.Next r)
+pub short_wrote : {k : ℕ} {l : List ℕ} {at : ℕ} {bs l' : List ℕ} {r : ℕ} → Short k l at bs l' r → Wrote true l at bs l' (Some r)
 short_wrote a = from_laid refl a.fits a.laid
 
 -- what was laid at the front is the front
@@ -80,10 +85,10 @@ pub short_is : {k : ℕ} {l : List ℕ} {at : ℕ} {bs cs l' : List ℕ} {r : �
 short_is a e = rw e at a
 
 -- a text, then one that may be long
-pub after_front : {l : List ℕ} {at : ℕ} {xs ys m l' : List ℕ} {p r : Put} → Wrote true l at xs m p → Wrote true m (at + length xs) ys l' r
+pub after_front : {l : List ℕ} {at : ℕ} {xs ys m l' : List ℕ} {p r : Option ℕ} → Wrote true l at xs m p → Wrote true m (at + length xs) ys l' r
     → at + length xs + length ys ≤ length l → Wrote true l at (xs ++ ys) l' r
 after_front {l} {at} {xs} {ys} {m} {l'} {p} {r} a b h =
     let s = short_put (length xs) a (omega arith) (omega arith) in
     let q = s.kept in
-    let y : r ≡ Put.Next (at + length xs + length ys) = next_is b (omega arith) in
+    let y : r ≡ Some (at + length xs + length ys) = next_is b (omega arith) in
     rw y (from_laid refl (rw (length-append xs ys) (omega arith)) (chain_put s.laid b (omega arith)))

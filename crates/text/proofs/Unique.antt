@@ -8,13 +8,20 @@ use Rattle.text.proofs.line.find.Reads as find
 use Rattle.text.proofs.line.kept.Reads as kept
 use Rattle.text.proofs.line.words.Reads as words
 use Rattle.text.proofs.line.word.Reads as word
-use Rattle.text.proofs.line.same.Reads as same
 use Rattle.text.proofs.part.front.Reads as front
 use Rattle.text.proofs.put.hex.Reads as hex
 use Rattle.text.proofs.put.decimal.Reads as decimal
+use Rattle.text.proofs.digit.written.Reads as written
+use Rattle.text.proofs.draft.Draft.new.Reads as new
+use Rattle.text.proofs.draft.Draft.push.Reads as push
+use Rattle.text.proofs.draft.Draft.decimal.Reads as added
+use Rattle.text.proofs.draft.Draft.numbers.Reads as numbers
+use Rattle.text.proofs.draft.Draft.row.Reads as row
+use Rattle.text.proofs.draft.Draft.as_slice.Reads as as_slice
+use Rattle.text.proofs.draft.Draft.put.Reads as put
 
 pub value_unique : (κs : _) (a : _) (r r' : _) (x x' : _) → value.Post κs a r x → value.Post κs a r' x' → r ≡ r'
-value_unique κs a r r' x x' p q = p.is ∙ sym q.is
+value_unique κs a r r' x x' p q = p ∙ sym q
 
 pub number_unique : (κs : _) (a : _) (r r' : _) (x x' : _) → number.Post κs a r x → number.Post κs a r' x' → r ≡ r'
 number_unique κs a r r' x x' p q = p ∙ sym q
@@ -35,9 +42,6 @@ words_unique κs a r r' x x' p q = p ∙ sym q
 pub word_unique : (κs : _) (a : _) (r r' : _) (x x' : _) → word.Post κs a r x → word.Post κs a r' x' → r.now ≡ r'.now
 word_unique κs a r r' x x' p q = p ∙ sym q
 
-pub same_unique : (κs : _) (a : _) (r r' : _) (x x' : _) → same.Post κs a r x → same.Post κs a r' x' → r ≡ r'
-same_unique κs a r r' x x' p q = p ∙ sym q
-
 pub front_unique : (κs : _) (a : _) (r r' : _) (x x' : _) → front.Post κs a r x → front.Post κs a r' x' → r.now ≡ r'.now
 front_unique κs a r r' x x' p q = p ∙ sym q
 
@@ -47,3 +51,29 @@ hex_unique κs a r r' x x' p q = (p.answer ∙ sym q.answer, p.list ∙ sym q.li
 pub decimal_unique : (κs : _) (a : _) (r r' : _) (x x' : _) → decimal.Post κs a r x → decimal.Post κs a r' x'
     → (r ≡ r') × (x.0.now ≡ x'.0.now)
 decimal_unique κs a r r' x x' p q = (p.answer ∙ sym q.answer, p.list ∙ sym q.list)
+
+pub written_unique : (κs : _) (a : _) (r r' : _) (x x' : _) → written.Post κs a r x → written.Post κs a r' x' → r ≡ r'
+written_unique κs a r r' x x' p q = p ∙ sym q
+
+-- drafts of every size
+module _ (n : _) (fits : _) where
+  pub new_unique : (κs : _) (a : _) (r r' : _) (x x' : _) → new.Post n fits κs a r x → new.Post n fits κs a r' x' → r ≡ r'
+  new_unique κs a r r' x x' p q = p ∙ sym q
+
+  pub row_unique : (κs : _) (a : _) (r r' : _) (x x' : _) → row.Post n fits κs a r x → row.Post n fits κs a r' x' → r ≡ r'
+  row_unique κs a r r' x x' p q = p ∙ sym q
+
+  pub push_unique : (κs : _) (a : _) (r r' : _) (x x' : _) → push.Post n fits κs a r x → push.Post n fits κs a r' x' → x.0.now ≡ x'.0.now
+  push_unique κs a r r' x x' p q = p ∙ sym q
+
+  pub added_unique : (κs : _) (a : _) (r r' : _) (x x' : _) → added.Post n fits κs a r x → added.Post n fits κs a r' x' → x.0.now ≡ x'.0.now
+  added_unique κs a r r' x x' p q = p ∙ sym q
+
+  pub numbers_unique : (κs : _) (a : _) (r r' : _) (x x' : _) → numbers.Post n fits κs a r x → numbers.Post n fits κs a r' x' → x.0.now ≡ x'.0.now
+  numbers_unique κs a r r' x x' p q = p ∙ sym q
+
+  pub as_slice_unique : (κs : _) (a : _) (r r' : _) (x x' : _) → as_slice.Post n fits κs a r x → as_slice.Post n fits κs a r' x' → r.now ≡ r'.now
+  as_slice_unique κs a r r' x x' p q = p ∙ sym q
+
+  pub put_unique : (κs : _) (a : _) (r r' : _) (x x' : _) → put.Post n fits κs a r x → put.Post n fits κs a r' x' → (r ≡ r') × (x.1.0.now ≡ x'.1.0.now)
+  put_unique κs a r r' x x' p q = (p.answer ∙ sym q.answer, p.list ∙ sym q.list)

@@ -7,34 +7,34 @@ use Rattle.text.specs.Number.{rest_of, digits_of, hexed, number_of}
 use Rattle.text.specs.Put.{letter_of, hex_of, decimals, decimal_of}
 use Rattle.text.specs.Line.{kept_of, split}
 use Rattle.text.specs.Bytes.{pairs, spells}
-use Rattle.text.specs.declared.number.Number.TheVariants as Number
+use Rattle.std.specs.Prelude.{Some, None}
 
 -- "0xaBc"
-hexadecimal : number_of (48 ∷ 120 ∷ 97 ∷ 66 ∷ 99 ∷ []) 4095 ≡ Number.Is 0xabc
+hexadecimal : number_of (48 ∷ 120 ∷ 97 ∷ 66 ∷ 99 ∷ []) 4095 ≡ Some 0xabc
 unfolding number_of hexed digits_of rest_of digit_of
 hexadecimal = refl
 
 -- "0xaBc" is more than 2747
-over_the_limit : number_of (48 ∷ 120 ∷ 97 ∷ 66 ∷ 99 ∷ []) 2747 ≡ Number.Bad
+over_the_limit : number_of (48 ∷ 120 ∷ 97 ∷ 66 ∷ 99 ∷ []) 2747 ≡ None
 unfolding number_of hexed digits_of rest_of digit_of
 over_the_limit = refl
 
 -- "0014"
-leading_zeros : number_of (48 ∷ 48 ∷ 49 ∷ 52 ∷ []) 14 ≡ Number.Is 14
+leading_zeros : number_of (48 ∷ 48 ∷ 49 ∷ 52 ∷ []) 14 ≡ Some 14
 unfolding number_of hexed digits_of rest_of digit_of
 leading_zeros = refl
 
 -- "0x" and ""
-no_digits : number_of (48 ∷ 120 ∷ []) 9 ≡ Number.Bad
+no_digits : number_of (48 ∷ 120 ∷ []) 9 ≡ None
 unfolding number_of hexed digits_of rest_of digit_of
 no_digits = refl
 
-empty : number_of [] 9 ≡ Number.Bad
+empty : number_of [] 9 ≡ None
 unfolding number_of hexed digits_of rest_of digit_of
 empty = refl
 
 -- "0X1"
-capital_x : number_of (48 ∷ 88 ∷ 49 ∷ []) 9 ≡ Number.Bad
+capital_x : number_of (48 ∷ 88 ∷ 49 ∷ []) 9 ≡ None
 unfolding number_of hexed digits_of rest_of digit_of
 capital_x = refl
 

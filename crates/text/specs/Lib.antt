@@ -4,3 +4,4 @@ pub mod Put
 pub mod Line
 pub mod Bytes
 pub mod Short
+pub mod Draft

@@ -1,10 +1,19 @@
 -- Numbers and bytes as text.
 use Rattle.std.specs.Prelude.{ℕ, zero, suc, ◌+◌, ◌/◌, ◌%◌, ◌≤◌, ◌≡◌, List, [], ◌∷◌, ◌++◌, drop, ltb}
 use Rattle.codec.specs.Choice.{pick}
+use Rattle.text.specs.declared.digit.Case.{Case}
 
 -- '0' to '9' and 'a' to 'f'
 unfoldable pub letter_of : ℕ → ℕ
 letter_of v = pick (ltb v 10) (v + 48) (v + 87)
+
+-- '0' to '9' and 'A' to 'F'
+unfoldable pub capital_of : ℕ → ℕ
+capital_of v = pick (ltb v 10) (v + 48) (v + 55)
+
+abbrev pub written_of : Case → ℕ → ℕ
+written_of Case.Lower v = letter_of v
+written_of Case.Upper v = capital_of v
 
 -- two digits for each byte
 abbrev pub hexes : List ℕ → List ℕ

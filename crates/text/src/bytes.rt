@@ -1,27 +1,15 @@
 // Bytes: two hexadecimal digits for each, or `-` for none.
 ghost use Rattle.std.specs.Prelude.{◌≡◌, true, ◌*◌, ◌≤◌, length};
+ghost use Rattle.std.specs.List.{list_all};
+ghost use Rattle.std.specs.Char.{is_ascii_hexdigit};
 ghost use Rattle.text.specs.Digit.{all_below};
 ghost use Rattle.codec.specs.Number.{over};
 ghost use Rattle.text.specs.Bytes.{pairs, spells, Filled};
 
-#[derive(Drop)]
-pub enum Bytes {
-    Are(usize),
-    Bad,
-}
-
 fn all_hex(s: &[u8]) -> bool
-    ensures { result ≡ all_below 16 s.now }
+    ensures { result ≡ list_all (λ c. is_ascii_hexdigit c) s.now }
 {
-    let mut i = 0;
-    while i < s.len() {
-        let d = crate::digit::value(s[i]);
-        if 16 <= d {
-            return false;
-        }
-        i += 1;
-    }
-    true
+    s.iter().all(|c| c.is_ascii_hexdigit())
 }
 
 fn lay(word: &[u8], out: &mut [u8])
@@ -29,37 +17,34 @@ fn lay(word: &[u8], out: &mut [u8])
     requires word_len_bound { length word.now ≤ 2 * length out.old }
     ensures { out.new ≡ over out.old 0 (pairs word.now) }
 {
-    let n = word.len() / 2;
-    let mut i = 0;
-    while i < n {
-        let a = crate::digit::value(word[2 * i]);
-        let b = crate::digit::value(word[2 * i + 1]);
+    for i in 0..word.len() / 2 {
+        let a = crate::digit::value(word[2 * i]).unwrap();
+        let b = crate::digit::value(word[2 * i + 1]).unwrap();
         out[i] = (a * 16 + b) as u8;
-        i += 1;
     }
 }
 
-// Everything is judged before the first byte is written, so that a bad word leaves out as it was.
-pub fn read(word: &[u8], out: &mut [u8]) -> Bytes
+// How many bytes the word is, which are then at the front of out. Everything is judged before the first byte is
+// written, so that a bad word leaves out as it was.
+pub fn read(word: &[u8], out: &mut [u8]) -> Option<usize>
     ensures { Filled (spells word.now) (pairs word.now) out.old out.new result }
 {
-    if crate::line::same(word, b"-") {
-        return Bytes::Are(0);
+    if word == b"-".as_slice() {
+        return Some(0);
     }
     let n = word.len() / 2;
     if n == 0 {
-        return Bytes::Bad;
+        return None;
     }
-    let odd = word.len() % 2;
-    if odd != 0 {
-        return Bytes::Bad;
+    if word.len() % 2 != 0 {
+        return None;
     }
     if out.len() < n {
-        return Bytes::Bad;
+        return None;
     }
     if !all_hex(word) {
-        return Bytes::Bad;
+        return None;
     }
     lay(word, out);
-    Bytes::Are(n)
+    Some(n)
 }

@@ -1,28 +1,32 @@
-// What a digit is worth.
-ghost use Rattle.codec.specs.Number.{Below};
-ghost use Rattle.text.specs.Digit.{digit_of};
+// What a digit is worth, and how it is written.
+ghost use Rattle.std.specs.Prelude.{◌≡◌, ◌%◌};
+ghost use Rattle.text.specs.Digit.{hex_digit_of};
+ghost use Rattle.text.specs.Put.{written_of};
 
-// One answer for every byte: what is no digit is worth 16, which no base that is read reaches.
-pub fn value(c: u8) -> u64
-    ensures { Below (digit_of c) 17 result }
+// A hexadecimal digit of either case, and nothing for any other byte.
+pub fn value(c: u8) -> Option<u64>
+    ensures { result ≡ hex_digit_of c }
 {
-    if c < b'0' {
-        return 16;
+    let digit = char::from(c).to_digit(16)?;
+    Some(u64::from(digit))
+}
+
+#[derive(Clone, Copy)]
+pub enum Case {
+    Lower,
+    Upper,
+}
+
+// The low half of a byte as a hexadecimal digit.
+#[tactic(auto, unfolding(crate::specs::Put::letter_of, crate::specs::Put::capital_of))]
+pub fn written(b: u8, case: Case) -> u8
+    ensures { result ≡ written_of case (b % 16) }
+{
+    let v = b & 15;
+    match case {
+        Case::Lower if v < 10 => v + 48,
+        Case::Lower => v + 87,
+        Case::Upper if v < 10 => v + 48,
+        Case::Upper => v + 55,
     }
-    if c <= b'9' {
-        return (c - 48) as u64;
-    }
-    if c < b'A' {
-        return 16;
-    }
-    if c <= b'F' {
-        return (c - 55) as u64;
-    }
-    if c < b'a' {
-        return 16;
-    }
-    if c <= b'f' {
-        return (c - 87) as u64;
-    }
-    16
 }

@@ -3,6 +3,7 @@
 
 pub mod bytes;
 pub mod digit;
+pub mod draft;
 pub mod line;
 pub mod number;
 pub mod part;

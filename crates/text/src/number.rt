@@ -1,63 +1,40 @@
 // Numbers: decimal, or hexadecimal after `0x`.
-ghost use Rattle.std.specs.Prelude.{◌≡◌, ◌<◌};
+ghost use Rattle.std.specs.Prelude.{◌≡◌, ◌<◌, ◌≤◌};
 ghost use Rattle.text.specs.Number.{grown_of, digits_of, number_of};
 
-#[derive(Drop)]
-pub enum Number {
-    Is(u64),
-    Bad,
-}
-
-// v with one more digit. The limit is asked of v, since the grown number may not fit 64 bits.
-fn grown(v: u64, base: u64, d: u64, most: u64) -> Number
-    requires { 0 < base }
+// v with one more digit.
+fn grown(v: u64, base: u64, d: u64, most: u64) -> Option<u64>
     ensures { result ≡ grown_of base most v d }
 {
-    if most < d {
-        return Number::Bad;
-    }
-    let room = (most - d) / base;
-    if room < v {
-        return Number::Bad;
-    }
-    Number::Is(v * base + d)
+    let next = v.checked_mul(base)?.checked_add(d)?;
+    if most < next { None } else { Some(next) }
 }
 
-fn digits(s: &[u8], base: u64, most: u64) -> Number
-    requires { 0 < base }
+fn digits(s: &[u8], base: u64, most: u64) -> Option<u64>
+    requires base_some { 0 < base }
+    requires base_bound { base ≤ 16 }
     ensures { result ≡ digits_of base most s.now }
 {
-    if s.len() == 0 {
-        return Number::Bad;
+    if s.is_empty() {
+        return None;
     }
-    let mut v: u64 = 0;
-    let mut i = 0;
-    while i < s.len() {
-        let d = crate::digit::value(s[i]);
+    let mut v = 0;
+    for c in s {
+        let d = crate::digit::value(*c)?;
         if base <= d {
-            return Number::Bad;
+            return None;
         }
-        let Number::Is(next) = grown(v, base, d, most) else {
-            return Number::Bad;
-        };
-        v = next;
-        i += 1;
+        v = grown(v, base, d, most)?;
     }
-    Number::Is(v)
+    Some(v)
 }
 
 // The limit is the caller's, so that one function reads a flag, 32 bits and 64 bits.
-pub fn read(word: &[u8], most: u64) -> Number
+pub fn read(word: &[u8], most: u64) -> Option<u64>
     ensures { result ≡ number_of word.now most }
 {
-    if word.len() < 2 {
-        return digits(word, 10, most);
+    match word.strip_prefix(b"0x") {
+        Some(rest) => digits(rest, 16, most),
+        None => digits(word, 10, most),
     }
-    if word[0] != b'0' {
-        return digits(word, 10, most);
-    }
-    if word[1] != b'x' {
-        return digits(word, 10, most);
-    }
-    digits(&word[2..], 16, most)
 }

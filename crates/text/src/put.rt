@@ -1,62 +1,42 @@
 // Text written over a slice at an index.
 ghost use Rattle.std.specs.Prelude.{◌≡◌, ◌+◌, ◌*◌, ◌<◌, ◌≤◌, length, true};
 ghost use Rattle.codec.specs.Number.{over, Wrote};
-ghost use Rattle.text.specs.Put.{letter_of, hexes, hex_of, decimal_of, Ends};
+ghost use Rattle.text.specs.Put.{hexes, hex_of, decimal_of, Ends};
 
-use codec::number::Put;
-
-#[tactic(auto, unfolding(crate::specs::Put::letter_of))]
-fn letter(v: u8) -> u8
-    requires { v < 16 }
-    ensures { result ≡ letter_of v }
-{
-    if v < 10 { v + 48 } else { v + 87 }
-}
+use crate::digit::{Case, written};
 
 fn lay_hex(out: &mut [u8], at: usize, src: &[u8])
     requires { at + 2 * length src.now ≤ length out.old }
     ensures { out.new ≡ over out.old at (hexes src.now) }
 {
-    let mut i = 0;
-    let mut k = at;
-    while i < src.len() {
-        let b = src[i];
-        out[k] = letter(b >> 4);
-        out[k + 1] = letter(b & 15);
-        i += 1;
-        k += 2;
+    for (i, b) in src.iter().enumerate() {
+        let k = at + 2 * i;
+        out[k] = written(*b >> 4, Case::Lower);
+        out[k + 1] = written(*b, Case::Lower);
     }
 }
 
 // Two lower-case digits for each byte, and `-` for no bytes.
-pub fn hex(out: &mut [u8], at: usize, src: &[u8]) -> Put
+pub fn hex(out: &mut [u8], at: usize, src: &[u8]) -> Option<usize>
     ensures { Wrote true out.old at (hex_of src.now) out.new result }
 {
-    if src.len() == 0 {
+    if src.is_empty() {
         return codec::number::put_bytes(out, at, b"-");
     }
-    let size = 2 * src.len();
-    if out.len() < size {
-        return Put::Nothing;
-    }
-    if out.len() - size < at {
-        return Put::Nothing;
-    }
+    let next = codec::number::get_part(out, at, 2 * src.len())?;
     lay_hex(out, at, src);
-    Put::Next(at + size)
+    Some(next)
 }
 
 // The decimal digits of v at the end of text, from the last to the first; answers where they start.
-fn spell(text: &mut [u8], v: u64) -> usize
+pub(crate) fn spell(text: &mut [u8], v: u64) -> usize
     requires { length text.old ≡ 20 }
     ensures { Ends text.new (decimal_of v) result }
 {
     let mut x = v;
-    let mut i = 20;
-    while 0 < i {
-        i -= 1;
+    for i in (0..20).rev() {
         text[i] = (x % 10 + 48) as u8;
-        x = x / 10;
+        x /= 10;
         if x == 0 {
             return i;
         }
@@ -64,7 +44,7 @@ fn spell(text: &mut [u8], v: u64) -> usize
     0
 }
 
-pub fn decimal(out: &mut [u8], at: usize, v: u64) -> Put
+pub fn decimal(out: &mut [u8], at: usize, v: u64) -> Option<usize>
     ensures { Wrote true out.old at (decimal_of v) out.new result }
 {
     let mut text = [0u8; 20];

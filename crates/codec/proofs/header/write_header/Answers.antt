@@ -1,10 +1,10 @@
 use Rattle.std.proofs.Common.{◌∙◌, sym, arith}
-use Rattle.codec.proofs.NumberLaws.{full, from_laid}
+use Rattle.codec.proofs.NumberLaws.{unwritten, from_laid}
 use Rattle.codec.proofs.HeaderLaws.{header_length, header_laid}
 use Rattle.codec.proofs.header.write_header.Goals as goal
 
 pub returns-in_err-get_part : goal.returns-in_err-get_part
-returns-in_err-get_part c = rw c.from_residual.ensures (full (omega (arith, header_length c.args.h, c.in_err-get_part.ensures.room)))
+returns-in_err-get_part c = unwritten c.from_residual.ensures c.in_err-get_part.ensures.room (sym (header_length c.args.h))
 
 pub returns : goal.returns
 returns c =

@@ -1,9 +1,9 @@
-use Rattle.std.proofs.Common.{arith}
-use Rattle.codec.proofs.NumberLaws.{down, down_last, full, length-be}
+use Rattle.std.proofs.Common.{sym}
+use Rattle.codec.proofs.NumberLaws.{down, down_last, unwritten, length-be}
 use Rattle.codec.proofs.number.put_be.Goals as goal
 
 pub returns-in_err-next : goal.returns-in_err-next
-returns-in_err-next c = rw c.from_residual.ensures (full (omega (arith, length-be c.args.n c.args.v, c.in_err-next.ensures.room)))
+returns-in_err-next c = unwritten c.from_residual.ensures c.in_err-next.ensures.room (sym (length-be _ _))
 
 pub loop-i-preserved : goal.loop-i-preserved
 loop-i-preserved c = down _ c.loop-i.invariant c.loop-i-test.true c.in_ok-next.ensures.room.1 c.low8.ensures

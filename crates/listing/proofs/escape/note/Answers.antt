@@ -5,13 +5,11 @@ use Rattle.listing.proofs.EscapeLaws.{note_length, room_left, no_room_left}
 use Rattle.listing.specs.Line.{note_line}
 use Rattle.listing.proofs.escape.note.Goals as goal
 
-pub returns-then-most-lt6 : goal.returns-then-most-lt6
-unfolding note_line
-returns-then-most-lt6 c = full (omega (arith, note_length c.args.text.now))
+pub returns-in_err-checked_sub : goal.returns-in_err-checked_sub
+returns-in_err-checked_sub c = rw c.from_residual.ensures (full (omega (arith, note_length c.args.text.now, c.in_err-checked_sub.ensures)))
 
-pub returns-then-most-at : goal.returns-then-most-at
-unfolding note_line
-returns-then-most-at c = full (omega (arith, note_length c.args.text.now))
+pub returns-in_err-room : goal.returns-in_err-room
+returns-in_err-room c = rw c.from_residual-in_err-room.ensures (full (omega (arith, note_length c.args.text.now, c.in_ok-checked_sub.ensures, c.in_err-room.ensures)))
 
 pub returns-then-not-fits : goal.returns-then-not-fits
 unfolding note_line

@@ -1,9 +1,7 @@
-use Rattle.std.proofs.Common.{length, ◌-◌}
+use Rattle.std.proofs.Common.{◌≡◌}
 use Rattle.listing.proofs.LinesLaws.{Left}
 use Rattle.listing.proofs.field.items.Given as goal
 
-abbrev pub invariant-loop-place : goal.invariant-loop-place
-invariant-loop-place l = Left l.microphone l.header l.frame l.fn.out l.from l.out l.at l.place
-
-abbrev pub decreases-loop-place : goal.decreases-loop-place
-decreases-loop-place l = length l.frame - l.place
+abbrev pub invariant-loop-read : goal.invariant-loop-read
+invariant-loop-read l =
+    (l.read-iterator.frame.now ≡ l.frame) × Left l.start l.header l.frame l.fn.out l.from l.out l.at l.read-iterator.place

@@ -1,6 +1,6 @@
 use Rattle.std.proofs.Common.{arith}
-use Rattle.text.proofs.ShortLaws.{short_put}
+use Rattle.text.proofs.DraftLaws.{adds}
 use Rattle.listing.proofs.word.lay.Goals as goal
 
 pub returns : goal.returns
-returns c = short_put _ c.put_bytes.ensures c.requires (omega arith)
+returns c = adds _ c.push.ensures (omega arith) c.requires

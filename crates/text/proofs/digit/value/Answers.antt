@@ -1,24 +1,10 @@
-use Rattle.std.proofs.Common.{arith}
-use Rattle.text.proofs.DigitLaws.{before_0, from_0, before_A, from_A, before_a, from_a, after_f}
+use Rattle.std.proofs.Common.{◌∙◌, ap}
+use Rattle.std.specs.Prelude.{Some}
+use Rattle.text.proofs.DigitLaws.{digit_none, digit_some}
 use Rattle.text.proofs.digit.value.Goals as goal
 
-pub returns-then-c-lt48 : goal.returns-then-c-lt48
-returns-then-c-lt48 c = before_0 _ (omega arith)
-
-pub returns-then-c-le57 : goal.returns-then-c-le57
-returns-then-c-le57 c = from_0 _ (omega arith) (omega arith)
-
-pub returns-then-c-lt65 : goal.returns-then-c-lt65
-returns-then-c-lt65 c = before_A _ (omega arith) (omega arith)
-
-pub returns-then-c-le70 : goal.returns-then-c-le70
-returns-then-c-le70 c = from_A _ (omega arith) (omega arith)
-
-pub returns-then-c-lt97 : goal.returns-then-c-lt97
-returns-then-c-lt97 c = before_a _ (omega arith) (omega arith)
-
-pub returns-then-c-le102 : goal.returns-then-c-le102
-returns-then-c-le102 c = from_a _ (omega arith) (omega arith)
+pub returns-in_err-digit : goal.returns-in_err-digit
+returns-in_err-digit c = c.from_residual.ensures ∙ digit_none c.args.c c.from.ensures c.in_err-digit.was c.to_digit.ensures.value
 
 pub returns : goal.returns
-returns c = after_f _ (omega arith)
+returns c = ap Some c.from-2.ensures ∙ digit_some c.args.c _ c.from.ensures c.in_ok-digit.was c.to_digit.ensures.value

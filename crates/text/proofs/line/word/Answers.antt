@@ -1,11 +1,13 @@
-use Rattle.text.proofs.LineLaws.{walking_past, walking_more, walking_end}
+use Rattle.std.proofs.Common.{rules, tests, refl, eqb}
+use Rattle.std.proofs.lemmas.Iterator.Consumers.{nth_from_yields_List}
+use Rattle.std.proofs.lemmas.Iterator.Splits.{YieldsList-from_slice_split}
+use Rattle.text.specs.Line.{word_of}
+use Rattle.text.proofs.LineLaws.{nth_word}
 use Rattle.text.proofs.line.word.Goals as goal
 
-pub returns-then-rest-n : goal.returns-then-rest-n
-returns-then-rest-n c = walking_past c.loop-i.invariant c.find-n.ensures c.if-rest-n.true c.loop-i-test.true
-
-pub loop-i-preserved : goal.loop-i-preserved
-loop-i-preserved c = walking_more c.loop-i.invariant c.find-n.ensures c.if-rest-n.false c.loop-i-test.true
-
 pub returns : goal.returns
-returns c = walking_end c.loop-i.invariant c.find-n-2.ensures c.loop-i-test.false
+unfolding word_of
+returns c =
+    let e = nth_from_yields_List c.nth.result _ c.args.k c.nth.ensures.ran
+    (YieldsList-from_slice_split _ (λ x. eqb x 32) c.args.s.now c.split.ensures.rest c.split.ensures.done c.split.ensures.closure (λ x b q k. search (rules, tests))) in
+    rw c.unwrap_or.ensures (nth_word c.args.s.now c.args.k c.nth.result _ refl e)

@@ -1,13 +1,11 @@
-use Rattle.text.proofs.LineLaws.{counting_space, counting_other, counting_end}
-use Rattle.text.proofs.line.words.Goals.{then-s-i-eq32, else-s-i-eq32}
+use Rattle.std.proofs.Common.{rules, tests, eqb}
+use Rattle.std.proofs.lemmas.Iterator.Consumers.{count_from_yields_List}
+use Rattle.std.proofs.lemmas.Iterator.Splits.{YieldsList-from_slice_split}
+use Rattle.text.specs.Line.{words_of}
 use Rattle.text.proofs.line.words.Goals as goal
 
-pub loop-i-preserved : goal.loop-i-preserved
-loop-i-preserved c =
-    elim c.if-s-i-eq32.branch [
-      | then-s-i-eq32 w ↦ rw w.n-is (counting_space c.loop-i.invariant c.loop-i-test.true w.if-s-i-eq32.true)
-      | else-s-i-eq32 w ↦ rw w.n-is (counting_other c.loop-i.invariant c.loop-i-test.true w.if-s-i-eq32.false)
-    ]
-
 pub returns : goal.returns
-returns c = counting_end c.loop-i.invariant c.loop-i-test.false
+unfolding words_of
+returns c =
+    count_from_yields_List c.split.result _ c.count.ensures.ran
+    (YieldsList-from_slice_split _ (λ x. eqb x 32) c.args.s.now c.split.ensures.rest c.split.ensures.done c.split.ensures.closure (λ x b q k. search (rules, tests)))

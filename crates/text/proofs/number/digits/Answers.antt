@@ -1,18 +1,24 @@
-use Rattle.std.proofs.Common.{sym}
-use Rattle.text.proofs.NumberLaws.{reading_more, reading_wrong, reading_over, reading_none, reading_end}
+use Rattle.std.proofs.Common.{rules, sym, ◌∙◌}
+use Rattle.text.proofs.NumberLaws.{reading_empty, reading_none, reading_more, reading_wrong, reading_over, reading_end}
 use Rattle.text.proofs.number.digits.Goals as goal
 
-pub returns-then-s-eq0 : goal.returns-then-s-eq0
-returns-then-s-eq0 c = reading_none _ _ _ c.if-s-eq0.true
+pub returns-then-is_empty : goal.returns-then-is_empty
+returns-then-is_empty c = reading_empty _ _ _ (search rules)
+
+pub returns-in_err-d : goal.returns-in_err-d
+returns-in_err-d c = c.from_residual.ensures ∙ reading_none c.loop-c.invariant c.loop-c-test.true c.requires.base_bound c.value.ensures c.in_err-d.was
 
 pub returns-then-base-d : goal.returns-then-base-d
-returns-then-base-d c = reading_wrong _ c.loop-i.invariant c.loop-i-test.true c.value-d.ensures.is c.if-base-d.true
+returns-then-base-d c = reading_wrong c.loop-c.invariant c.loop-c-test.true c.value.ensures c.in_ok-d.was c.if-base-d.true
 
-pub returns-in_default : goal.returns-in_default
-returns-in_default c = reading_over _ c.loop-i.invariant c.loop-i-test.true c.value-d.ensures.is c.requires c.if-base-d.false (sym c.in_default.ensures)
+pub returns-in_err-v : goal.returns-in_err-v
+returns-in_err-v c =
+    c.from_residual-in_err-v.ensures
+    ∙ reading_over c.loop-c.invariant c.loop-c-test.true c.value.ensures c.in_ok-d.was c.requires.base_some c.if-base-d.false (sym c.grown.ensures ∙ c.in_err-v.was)
 
-pub loop-i-preserved : goal.loop-i-preserved
-loop-i-preserved c = reading_more _ c.loop-i.invariant c.loop-i-test.true c.value-d.ensures.is _ c.if-base-d.false (sym c.in-Is.ensures)
+pub loop-c-preserved : goal.loop-c-preserved
+loop-c-preserved c =
+    reading_more c.loop-c.invariant c.loop-c-test.true c.value.ensures c.in_ok-d.was _ c.if-base-d.false (sym c.grown.ensures ∙ c.in_ok-v.was)
 
 pub returns : goal.returns
-returns c = reading_end c.loop-i.invariant c.loop-i-test.false c.if-s-eq0.false
+returns c = reading_end c.loop-c.invariant c.loop-c-test.false (search rules)
