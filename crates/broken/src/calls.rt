@@ -1,12 +1,13 @@
 // The 24 calls of the engine in three parts: how many of them answer 19.
 use codec::time::Time;
+use framer::cause::Cause;
 use mirror::engine::Engine;
 
-fn tally(n: u64, answer: u8) -> u64 {
-    if answer != 19 {
-        return n;
+fn tally<T: Drop>(n: u64, answer: Result<T, Cause>) -> u64 {
+    match answer {
+        Err(Cause::Unsound) => n.saturating_add(1),
+        _ => n,
     }
-    if n < 24 { n + 1 } else { n }
 }
 
 fn now() -> Time {
@@ -21,8 +22,8 @@ pub(crate) fn first(n: u64, e: Engine) -> u64 {
     let g = tally(f, e.stop(0).answer);
     let h = tally(g, e.remove(0, 0).answer);
     let i = tally(h, e.failed().answer);
-    let j = tally(i, e.discards().answer);
-    tally(j, e.failures().answer)
+    let j = tally(i, e.discards());
+    tally(j, e.failures())
 }
 
 pub(crate) fn second(n: u64, e: Engine) -> u64 {

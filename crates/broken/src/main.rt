@@ -16,7 +16,7 @@ fn past(put: Put, at: usize) -> usize {
 fn line(out: &mut [u8], k: usize) -> usize {
     let e = breach::engine(k);
     let n = calls::third(calls::second(calls::first(0, e), e), e);
-    let a = past(breach::name(out, k), 0);
+    let a = past(codec::number::put_bytes(out, 0, breach::name(k)), 0);
     let b = past(codec::number::put_bytes(out, a, b": 19 from "), a);
     let d = past(text::put::decimal(out, b, n), b);
     past(codec::number::put_bytes(out, d, b" of 24 calls\n"), d)

@@ -1,16 +1,14 @@
 -- Laws of filters, sources, reports and updates. Assumes nothing.
 use Prim.Native.Nat.{ℕ, suc, ◌+◌, ◌*◌, ◌%◌, ◌^◌, ◌≤◌, ◌<◌}
 use mathlib.Core.Path.{◌≡◌, refl, sym, ◌∙◌}
-use mathlib.Core.Bool.{Bool, true, false, not, ◌&&◌}
+use mathlib.Core.Bool.{Bool, true, false, not, ◌&&◌, ◌||◌}
 use mathlib.Core.List.{List, [], ◌∷◌, map}
 use native.Mathlib.Omega.{arith}
-use native.Mathlib.Numerals.{add-one}
-use lib.ListN.{length, drop, get_or, length-map, drop_of_length-le}
-use lib.Seq.{drop-cons}
-use lib.Dec.{leb, ltb, eqb}
+use lib.ListN.{length, length-map}
+use lib.Dec.{leb, ltb}
 use lib.Bits.{bit_and, bit_or, or_shifted, and_mask}
 use mir.Val.{bool_byte}
-use borrow.Author.Tests.{le-ltb, leb-false, ltb-false, eqb-false, not-false}
+use borrow.Author.Tests.{le-ltb, ltb-true, ltb-false, leb-true, not-true}
 use Rattle.codec.specs.Choice.{pick, bit}
 use Rattle.codec.specs.Number.{Below}
 use Rattle.codec.specs.Time.{time_ok}
@@ -19,11 +17,15 @@ use Rattle.codec.specs.Item.{item_length}
 use Rattle.codec.specs.declared.time.Time.{Time}
 use Rattle.codec.specs.declared.ident.Kind.TheVariants as Kind
 use Rattle.codec.specs.declared.ident.Ident.{Ident}
-use Rattle.codec.specs.declared.item.State.TheVariants as State
-use Rattle.codec.proofs.ItemLaws.{most_small}
+use Rattle.std.specs.Prelude.{Some, None, cond}
+use Rattle.std.specs.Prelude.{Ok}
+use Rattle.framer.specs.Cause.{guard}
+use Rattle.framer.specs.declared.cause.Cause.{Cause}
+use Rattle.framer.proofs.FramerLaws.{passed-guard}
 use Rattle.bus.specs.Filter.{matches, filtered, is_free, same_kind}
-use Rattle.bus.specs.Source.{passes, free_at, add_cause}
-use Rattle.bus.specs.Report.{error_bits, error_report, too_big, early_cause, late_cause, report_cause}
+use Rattle.std.specs.List.{list_any, position_or_len}
+use Rattle.bus.specs.Source.{passes, free_at, free_in, add_cause}
+use Rattle.bus.specs.Report.{error_bits, error_report, too_big, report_cause}
 use Rattle.bus.specs.Update.{update_cause}
 use Rattle.bus.specs.declared.filter.Filter.{Filter}
 use Rattle.bus.specs.declared.filter.Place.{Place}
@@ -36,22 +38,27 @@ use Rattle.bus.specs.declared.update.Update.{Update}
 pub length_mapped : {X Y : Type 0} (f : X → Y) (l : List X) (n : ℕ) → length (map f l) ≡ n → length l ≡ n
 length_mapped f l n e = sym (length-map l f) ∙ e
 
--- the places that are left to look at
-module _ (ps : List Place) (i : ℕ) (d : Place) (h : i < length ps) where
-  pub passes_hit : (id : Ident) → matches (get_or ps i d).filter id ≡ true → passes (drop i ps) id ≡ true
-  passes_hit id e = rw (drop-cons ps i d, e)
+-- a walk over the places
+pub any_passes : (ps : List Place) (id : Ident) → list_any (λ (p : Place). matches p.filter id) ps ≡ passes ps id
+any_passes [] id = refl
+any_passes (p ∷ ps) id = rw (any_passes ps id)
 
-  pub passes_miss : (id : Ident) → matches (get_or ps i d).filter id ≡ false → passes (drop i ps) id ≡ passes (drop (i + 1) ps) id
-  passes_miss id e = rw (add-one, drop-cons ps i d, e)
+pub position_free : (ps : List Place) → position_or_len (λ (p : Place). is_free p.filter) ps ≡ free_at ps
+position_free [] = refl
+position_free (p ∷ ps) = rw (position_free ps) (go (is_free p.filter))
+  where
+    go : (b : Bool) → cond (not b) (1 + free_at ps) 0 ≡ pick b 0 (suc (free_at ps))
+    go true = refl
+    go false = omega arith
 
-  pub free_hit : is_free (get_or ps i d).filter ≡ true → i + free_at (drop i ps) ≡ i
-  free_hit e = rw (drop-cons ps i d, e) (omega arith)
-
-  pub free_miss : is_free (get_or ps i d).filter ≡ false → i + free_at (drop i ps) ≡ i + 1 + free_at (drop (i + 1) ps)
-  free_miss e = rw (add-one, drop-cons ps i d, e) (omega arith)
-
-pub passes_end : (ps : List Place) (i : ℕ) (id : Ident) → length ps ≤ i → passes (drop i ps) id ≡ false
-passes_end ps i id h = rw (drop_of_length-le ps h)
+pub free_found : (ps : List Place) (n : ℕ) → n ≡ position_or_len (λ (p : Place). is_free p.filter) ps → length ps ≡ 8
+    → cond (ltb n (length ps)) (Some n) None ≡ free_in ps
+unfolding free_in
+free_found ps n e h = rw (e, position_free ps, h) (go (ltb (free_at ps) 8))
+  where
+    go : (b : Bool) → cond b (Some (free_at ps)) None ≡ pick b (Some (free_at ps)) None
+    go true = refl
+    go false = refl
 
 -- ids that each filter treats alike, and ids that none matches
 pub passes_alike : (ps : List Place) (a b : Ident) → ((f : Filter) → matches f a ≡ matches f b) → passes ps a ≡ passes ps b
@@ -61,9 +68,6 @@ passes_alike (p ∷ ps) a b e = rw (e p.filter, passes_alike ps a b e)
 pub passes_none : (ps : List Place) (id : Ident) → ((f : Filter) → matches f id ≡ false) → passes ps id ≡ false
 passes_none [] id e = refl
 passes_none (p ∷ ps) id e = rw (e p.filter, passes_none ps id e)
-
-pub free_end : (ps : List Place) (i : ℕ) → length ps ≤ i → i + free_at (drop i ps) ≡ i
-free_end ps i h = rw (drop_of_length-le ps h) (omega arith)
 
 -- a flag in its place
 bit_small : (b : Bool) → bool_byte b < 2
@@ -99,78 +103,6 @@ flexray_sum p n hp =
 pub flexray_made : (b : Bool) (n : ℕ) → bit_or (bool_byte b * 2 ^ 6 % 2 ^ 8) (bit_and n 63) ≡ bit b * 64 + n % 64
 flexray_made b n = flexray_sum (bool_byte b) n (bit_small b) ∙ rw (byte_bit b)
 
--- no cause: what each test of a chain left
-pick_0 : (b : Bool) (k r : ℕ) → pick b (suc k) r ≡ 0 → (b ≡ false) × (r ≡ 0)
-pick_0 true k r e = let z : ⊥ = omega arith in absurd z
-pick_0 false k r e = (refl, e)
-
--- six tests, of which the first that holds gives the answer
-abbrev six : Bool → Bool → Bool → Bool → Bool → Bool → ℕ → ℕ
-six a b d e f g x = pick a 7 (pick b 2 (pick d 4 (pick e 3 (pick f 5 (pick g 6 x)))))
-
-six_0 : (a b d e f g : Bool) (x : ℕ) → six a b d e f g x ≡ 0
-    → (a ≡ false) × (b ≡ false) × (d ≡ false) × (e ≡ false) × (f ≡ false) × (g ≡ false) × (x ≡ 0)
-six_0 a b d e f g x z =
-    let z7 = pick_0 a 6 (pick b 2 (pick d 4 (pick e 3 (pick f 5 (pick g 6 x))))) z in
-    let z2 = pick_0 b 1 (pick d 4 (pick e 3 (pick f 5 (pick g 6 x)))) z7.1 in
-    let z4 = pick_0 d 3 (pick e 3 (pick f 5 (pick g 6 x))) z2.1 in
-    let z3 = pick_0 e 2 (pick f 5 (pick g 6 x)) z4.1 in
-    let z5 = pick_0 f 4 (pick g 6 x) z3.1 in
-    let z6 = pick_0 g 5 x z5.1 in
-    (z7.0, z2.0, z4.0, z3.0, z5.0, z6.0, z6.1)
-
-six_stops : (a b d e f g : Bool) (x : ℕ) → (six a b d e f g 0 ≡ 0 → ⊥) → six a b d e f g x ≡ six a b d e f g 0
-six_stops true b d e f g x h = refl
-six_stops false true d e f g x h = refl
-six_stops false false true e f g x h = refl
-six_stops false false false true f g x h = refl
-six_stops false false false false true g x h = refl
-six_stops false false false false false true x h = refl
-six_stops false false false false false false x h = absurd (h refl)
-
--- what a report passed that none of the first six tests refuses
-pub record Early (count : ℕ) (s : Source) (r : Report) (n : ℕ) : Type 0 where
-  pub time : time_ok r.time ≡ true
-  pub source : r.source < count
-  pub kind : same_kind s.kind (kind_of r.ident) ≡ true
-  pub started : s.started ≡ true
-  pub ranged : r.ranged ≡ true
-  pub most : n ≤ most_of r.ident
-
-module _ (count : ℕ) (s : Source) (r : Report) (n : ℕ) where
-  early_0 : (x : ℕ) → early_cause count s r n x ≡ 0
-      → (not (time_ok r.time) ≡ false) × (leb count r.source ≡ false) × (not (same_kind s.kind (kind_of r.ident)) ≡ false)
-      × (not s.started ≡ false) × (not r.ranged ≡ false) × (ltb (most_of r.ident) n ≡ false) × (x ≡ 0)
-  unfolding early_cause
-  early_0 x e =
-      six_0 (not (time_ok r.time)) (leb count r.source) (not (same_kind s.kind (kind_of r.ident))) (not s.started) (not r.ranged)
-      (ltb (most_of r.ident) n) x e
-
-  pub early_then : (x : ℕ) → early_cause count s r n 0 ≡ 0 → early_cause count s r n x ≡ x
-  unfolding early_cause
-  early_then x e = let h = early_0 0 e in rw (h.0, h.1, h.2, h.3, h.4, h.5)
-
-  pub early_stops : (x : ℕ) → (early_cause count s r n 0 ≡ 0 → ⊥) → early_cause count s r n x ≡ early_cause count s r n 0
-  unfolding early_cause
-  early_stops x h =
-      six_stops (not (time_ok r.time)) (leb count r.source) (not (same_kind s.kind (kind_of r.ident))) (not s.started) (not r.ranged)
-      (ltb (most_of r.ident) n) x h
-
-  pub early_passed : (x : ℕ) → early_cause count s r n x ≡ 0 → Early count s r n
-  early_passed x e =
-      let h = early_0 x e in
-      record {
-        time = not-false (time_ok r.time) h.0;
-        source = leb-false count r.source h.1;
-        kind = not-false (same_kind s.kind (kind_of r.ident)) h.2;
-        started = not-false s.started h.3;
-        ranged = not-false r.ranged h.4;
-        most = ltb-false (most_of r.ident) n h.5;
-      }
-
-  pub early_short : early_cause count s r n 0 ≡ 0 → n ≤ 254
-  early_short e = let h = (early_passed 0 e).most in let k = most_small r.ident in omega arith
-
 -- what an accepted report passed
 pub record Passed (count f : ℕ) (s : Source) (r : Report) (n : ℕ) : Type 0 where
   pub time : time_ok r.time ≡ true
@@ -180,36 +112,40 @@ pub record Passed (count f : ℕ) (s : Source) (r : Report) (n : ℕ) : Type 0 w
   pub ranged : r.ranged ≡ true
   pub most : n ≤ most_of r.ident
   pub passes : filtered r.ident ≡ true → passes s.places r.ident ≡ true
-  pub fits : 14 + item_length (record { offset = record { 0 = 0 }; network = 0; state = State.Byte 0; ident = r.ident; carries = r.carries }) n ≤ f
+  pub fits : 14 + item_length (record { offset = record { 0 = 0 }; network = 0; state = Some 0; ident = r.ident; carries = r.carries }) n ≤ f
 
-pub cause_passed : (count f : ℕ) (s : Source) (r : Report) (n : ℕ) → report_cause count f s r n ≡ 0 → Passed count f s r n
-unfolding report_cause late_cause too_big
+pub cause_passed : (count f : ℕ) (s : Source) (r : Report) (n : ℕ) → report_cause count f s r n ≡ Ok tt → Passed count f s r n
+unfolding report_cause too_big
 cause_passed count f s r n e =
-    let h = early_passed count s r n (late_cause f s r n) e in
-    let z = (early_0 count s r n (late_cause f s r n) e).6 in
-    let z1 = pick_0 (filtered r.ident && not (passes s.places r.ident)) 0 (pick (too_big f r n) 8 0) z in
-    let z8 = pick_0 (too_big f r n) 7 0 z1.1 in
+    let z7 = passed-guard (time_ok r.time) Cause.BadTime _ tt e in
+    let z2 = passed-guard (ltb r.source count) Cause.NoSource _ tt z7.1 in
+    let z4 = passed-guard (same_kind s.kind (kind_of r.ident)) Cause.OtherKind _ tt z2.1 in
+    let z3 = passed-guard s.started Cause.NotStarted _ tt z4.1 in
+    let z5 = passed-guard r.ranged Cause.OutOfRange _ tt z3.1 in
+    let z6 = passed-guard (leb n (most_of r.ident)) Cause.PayloadTooLong _ tt z5.1 in
+    let z1 = passed-guard (not (filtered r.ident) || passes s.places r.ident) Cause.Unmatched _ tt z6.1 in
+    let z8 = passed-guard (not (too_big f r n)) Cause.TooBig _ tt z1.1 in
     record {
-      time = h.time;
-      source = h.source;
-      kind = h.kind;
-      started = h.started;
-      ranged = h.ranged;
-      most = h.most;
-      passes = λ a. not-false (passes s.places r.ident) (rw a at z1.0);
-      fits = ltb-false f (14 + item_length (record { offset = record { 0 = 0 }; network = 0; state = State.Byte 0; ident = r.ident; carries = r.carries }) n) z8.0;
+      time = z7.0;
+      source = ltb-true r.source count z2.0;
+      kind = z4.0;
+      started = z3.0;
+      ranged = z5.0;
+      most = leb-true n (most_of r.ident) z6.0;
+      passes = λ a. rw a at z1.0;
+      fits = ltb-false f (14 + item_length (record { offset = record { 0 = 0 }; network = 0; state = Some 0; ident = r.ident; carries = r.carries }) n) (not-true _ z8.0);
     }
 
 -- an error without a frame is refused with 7, 2, 4, 3 or 5: it has no payload, no filter is asked, and it fits every frame
 pub error_cause : (count f : ℕ) (s : Source) (source : ℕ) (t : Time) (channels bits : ℕ) → 22 ≤ f
     → report_cause count f s (error_report source t channels bits) 0
-    ≡ pick (not (time_ok t)) 7
-    (pick (leb count source) 2
-    (pick (not (same_kind s.kind Kind.FlexRay)) 4
-    (pick (not s.started) 3
-    (pick (not (channels_ok channels && error_bits bits)) 5
-    0))))
-unfolding report_cause early_cause late_cause too_big error_report
+    ≡ guard (time_ok t) Cause.BadTime
+    (guard (ltb source count) Cause.NoSource
+    (guard (same_kind s.kind Kind.FlexRay) Cause.OtherKind
+    (guard s.started Cause.NotStarted
+    (guard (channels_ok channels && error_bits bits) Cause.OutOfRange
+    (Ok tt)))))
+unfolding report_cause too_big error_report
 error_cause count f s source t channels bits h = rw (le-ltb f 22 h)
 
 -- what an accepted state update passed
@@ -219,40 +155,30 @@ pub record Updates (count : ℕ) (s : Source) (u : Update) : Type 0 where
   pub started : s.started ≡ true
   pub good : u.good ≡ true
 
-pub update_passed : (count : ℕ) (s : Source) (u : Update) → update_cause count s u ≡ 0 → Updates count s u
+pub update_passed : (count : ℕ) (s : Source) (u : Update) → update_cause count s u ≡ Ok tt → Updates count s u
 unfolding update_cause
 update_passed count s u e =
-    let z2 = pick_0 (leb count u.source) 1 (pick (not (same_kind s.kind u.kind)) 4 (pick (not s.started) 3 (pick (not u.good) 5 0))) e in
-    let z4 = pick_0 (not (same_kind s.kind u.kind)) 3 (pick (not s.started) 3 (pick (not u.good) 5 0)) z2.1 in
-    let z3 = pick_0 (not s.started) 2 (pick (not u.good) 5 0) z4.1 in
-    let z5 = pick_0 (not u.good) 4 0 z3.1 in
-    record {
-      source = leb-false count u.source z2.0;
-      kind = not-false (same_kind s.kind u.kind) z4.0;
-      started = not-false s.started z3.0;
-      good = not-false u.good z5.0;
-    }
+    let z2 = passed-guard (ltb u.source count) Cause.NoSource _ tt e in
+    let z4 = passed-guard (same_kind s.kind u.kind) Cause.OtherKind _ tt z2.1 in
+    let z3 = passed-guard s.started Cause.NotStarted _ tt z4.1 in
+    let z5 = passed-guard u.good Cause.OutOfRange _ tt z3.1 in
+    record { source = ltb-true u.source count z2.0; kind = z4.0; started = z3.0; good = z5.0 }
 
 -- what an accepted filter passed
 pub record Adds (count : ℕ) (s : Source) (a : Addition) : Type 0 where
   pub source : a.source < count
   pub kind : same_kind s.kind a.kind ≡ true
   pub good : a.good ≡ true
-  pub room : free_at s.places ≡ 8 → ⊥
+  pub room : free_at s.places < 8
 
-pub add-passed : (count : ℕ) (s : Source) (a : Addition) → add_cause count s a ≡ 0 → Adds count s a
+pub add-passed : (count : ℕ) (s : Source) (a : Addition) → add_cause count s a ≡ Ok tt → Adds count s a
 unfolding add_cause
 add-passed count s a e =
-    let z2 = pick_0 (leb count a.source) 1 (pick (not (same_kind s.kind a.kind)) 4 (pick (not a.good) 9 (pick (eqb (free_at s.places) 8) 10 0))) e in
-    let z4 = pick_0 (not (same_kind s.kind a.kind)) 3 (pick (not a.good) 9 (pick (eqb (free_at s.places) 8) 10 0)) z2.1 in
-    let z9 = pick_0 (not a.good) 8 (pick (eqb (free_at s.places) 8) 10 0) z4.1 in
-    let z10 = pick_0 (eqb (free_at s.places) 8) 9 0 z9.1 in
-    record {
-      source = leb-false count a.source z2.0;
-      kind = not-false (same_kind s.kind a.kind) z4.0;
-      good = not-false a.good z9.0;
-      room = eqb-false (free_at s.places) 8 z10.0;
-    }
+    let z2 = passed-guard (ltb a.source count) Cause.NoSource _ tt e in
+    let z4 = passed-guard (same_kind s.kind a.kind) Cause.OtherKind _ tt z2.1 in
+    let z9 = passed-guard a.good Cause.BadFilter _ tt z4.1 in
+    let z10 = passed-guard (ltb (free_at s.places) 8) Cause.NoPlace _ tt z9.1 in
+    record { source = ltb-true a.source count z2.0; kind = z4.0; good = z9.0; room = ltb-true (free_at s.places) 8 z10.0 }
 
 -- the lowest free place is within the list, or just past it
 pub free_most : (ps : List Place) → free_at ps ≤ length ps
@@ -262,10 +188,3 @@ free_most (p ∷ ps) = step (is_free p.filter) (free_at ps) (length ps) (free_mo
     step : (b : Bool) (x n : ℕ) → x ≤ n → pick b 0 (suc x) ≤ suc n
     step true x n h = omega arith
     step false x n h = omega arith
-
--- an accepted filter has one of eight places
-pub add-room : (count : ℕ) (s : Source) (a : Addition) → add_cause count s a ≡ 0 → length s.places ≡ 8 → free_at s.places < 8
-add-room count s a e h =
-    let k = free_most s.places in
-    let z : free_at s.places ≡ 8 → ⊥ = (add-passed count s a e).room in
-    omega (arith, z)

@@ -4,7 +4,6 @@ use Rattle.bus.proofs.filter.low16.Reads as low16
 use Rattle.bus.proofs.filter.filter_matches.Reads as filter-matches
 use Rattle.bus.proofs.filter.filtered.Reads as filtered
 use Rattle.bus.proofs.filter.is_free.Reads as is_free
-use Rattle.bus.proofs.filter.same_kind.Reads as same_kind
 use Rattle.bus.proofs.filter.can_mask.Reads as can-mask
 use Rattle.bus.proofs.filter.can_range.Reads as can-range
 use Rattle.bus.proofs.filter.lin_mask.Reads as lin-mask
@@ -19,13 +18,12 @@ use Rattle.bus.proofs.report.report_cause.Reads as report-cause
 use Rattle.bus.proofs.report.offer.Reads as offer
 use Rattle.bus.proofs.report.settle.Reads as settle
 use Rattle.bus.proofs.source.fresh.Reads as fresh
-use Rattle.bus.proofs.source.first.Reads as first
 use Rattle.bus.proofs.source.Source.reset.Reads as reset
 use Rattle.bus.proofs.source.Source.start.Reads as start
 use Rattle.bus.proofs.source.Source.stop.Reads as stop
 use Rattle.bus.proofs.source.Source.passes.Reads as passes
 use Rattle.bus.proofs.source.Source.free_place.Reads as free-place
-use Rattle.bus.proofs.source.Source.add_cause.Reads as add-cause
+use Rattle.bus.proofs.source.Source.place_for.Reads as place-for
 use Rattle.bus.proofs.source.Source.add_filter.Reads as add-filter
 use Rattle.bus.proofs.source.Source.remove_cause.Reads as remove-cause
 use Rattle.bus.proofs.source.Source.remove_filter.Reads as remove-filter
@@ -50,9 +48,6 @@ filtered_unique κs a r r' x x' p q = p ∙ sym q
 
 pub is_free_unique : (κs : _) (a : _) (r r' : _) (x x' : _) → is_free.Post κs a r x → is_free.Post κs a r' x' → r ≡ r'
 is_free_unique κs a r r' x x' p q = p ∙ sym q
-
-pub same_kind_unique : (κs : _) (a : _) (r r' : _) (x x' : _) → same_kind.Post κs a r x → same_kind.Post κs a r' x' → r ≡ r'
-same_kind_unique κs a r r' x x' p q = p ∙ sym q
 
 pub can_mask_unique : (κs : _) (a : _) (r r' : _) (x x' : _) → can-mask.Post κs a r x → can-mask.Post κs a r' x' → r ≡ r'
 can_mask_unique κs a r r' x x' p q = p ∙ sym q
@@ -96,9 +91,6 @@ settle_unique κs a r r' x x' p q = p ∙ sym q
 pub fresh_unique : (κs : _) (a : _) (r r' : _) (x x' : _) → fresh.Post κs a r x → fresh.Post κs a r' x' → r ≡ r'
 fresh_unique κs a r r' x x' p q = p ∙ sym q
 
-pub first_unique : (κs : _) (a : _) (r r' : _) (x x' : _) → first.Post κs a r x → first.Post κs a r' x' → r ≡ r'
-first_unique κs a r r' x x' p q = p ∙ sym q
-
 pub reset_unique : (κs : _) (a : _) (r r' : _) (x x' : _) → reset.Post κs a r x → reset.Post κs a r' x' → r ≡ r'
 reset_unique κs a r r' x x' p q = p ∙ sym q
 
@@ -112,10 +104,10 @@ pub passes_unique : (κs : _) (a : _) (r r' : _) (x x' : _) → passes.Post κs 
 passes_unique κs a r r' x x' p q = p ∙ sym q
 
 pub free_place_unique : (κs : _) (a : _) (r r' : _) (x x' : _) → free-place.Post κs a r x → free-place.Post κs a r' x' → r ≡ r'
-free_place_unique κs a r r' x x' p q = p.is ∙ sym q.is
+free_place_unique κs a r r' x x' p q = p ∙ sym q
 
-pub add_cause_unique : (κs : _) (a : _) (r r' : _) (x x' : _) → add-cause.Post κs a r x → add-cause.Post κs a r' x' → r ≡ r'
-add_cause_unique κs a r r' x x' p q = p ∙ sym q
+pub place_for_unique : (κs : _) (a : _) (r r' : _) (x x' : _) → place-for.Post κs a r x → place-for.Post κs a r' x' → r ≡ r'
+place_for_unique κs a r r' x x' p q = p ∙ sym q
 
 pub add_filter_unique : (κs : _) (a : _) (r r' : _) (x x' : _) → add-filter.Post κs a r x → add-filter.Post κs a r' x' → r ≡ r'
 add_filter_unique κs a r r' x x' p q = p ∙ sym q

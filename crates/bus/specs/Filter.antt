@@ -52,6 +52,15 @@ is_free (Filter.Slots low high lowCycle highCycle repetition) = false
 unfoldable pub same_kind : Kind → Kind → Bool
 same_kind a b = eqb (network_type a) (network_type b)
 
+-- a filter of keys to be added, each of them at most so large
+unfoldable pub mask_of : ℕ → Kind → ℕ → ℕ → ℕ → Addition
+mask_of source kind most mask code =
+    record { source = source; kind = kind; good = leb mask most && leb code most; filter = Filter.Mask mask code }
+
+unfoldable pub range_of : ℕ → Kind → ℕ → ℕ → ℕ → Addition
+range_of source kind most lower upper =
+    record { source = source; kind = kind; good = leb lower upper && leb upper most; filter = Filter.Range lower upper }
+
 -- a filter to be added, and whether it is in range (answer 9): any 32-bit mask, code and bounds for CAN
 unfoldable pub can_mask : ℕ → ℕ → ℕ → Addition
 can_mask source mask code = record { source = source; kind = Kind.Can; good = true; filter = Filter.Mask mask code }

@@ -1,5 +1,5 @@
 -- Reports (docs/RULES.md, "Answers", "Frame bytes", rules 4 and 5).
-use Rattle.std.specs.Prelude.{ℕ, ◌+◌, ◌%◌, Bool, true, false, not, ◌&&◌, ◌||◌, leb, ltb, eqb}
+use Rattle.std.specs.Prelude.{ℕ, ◌+◌, ◌%◌, Bool, true, false, not, ◌&&◌, ◌||◌, leb, ltb, eqb, Result, Ok}
 use Rattle.std.specs.Int.Bits.{bit_and, bit_or}
 use Rattle.codec.specs.Choice.{pick}
 use Rattle.codec.specs.Time.{time_ok}
@@ -7,7 +7,9 @@ use Rattle.codec.specs.Ident.{ident_ok, kind_of, most_of, channels_ok, flexray_r
 use Rattle.codec.specs.Item.{item_length}
 use Rattle.codec.specs.declared.time.Time.{Time}
 use Rattle.codec.specs.declared.ident.Ident.{Ident}
-use Rattle.codec.specs.declared.item.State.TheVariants as State
+use Rattle.std.specs.Prelude.{Some}
+use Rattle.framer.specs.Cause.{guard}
+use Rattle.framer.specs.declared.cause.Cause.{Cause}
 use Rattle.framer.specs.declared.offer.Offer.{Offer}
 use Rattle.bus.specs.Filter.{filtered, same_kind}
 use Rattle.bus.specs.Source.{due, passes}
@@ -80,32 +82,23 @@ unfoldable pub too_big : ℕ → Report → ℕ → Bool
 too_big f r n = ltb f (14 + item_length (record {
   offset = record { 0 = 0 };
   network = 0;
-  state = State.Byte 0;
+  state = Some 0;
   ident = r.ident;
   carries = r.carries;
 }) n)
 
--- reports: 7, 2, 4, 3, 5, 6, then what is left
-unfoldable pub early_cause : ℕ → Source → Report → ℕ → ℕ → ℕ
-early_cause count s r n rest =
-    pick (not (time_ok r.time)) 7
-    (pick (leb count r.source) 2
-    (pick (not (same_kind s.kind (kind_of r.ident))) 4
-    (pick (not s.started) 3
-    (pick (not r.ranged) 5
-    (pick (ltb (most_of r.ident) n) 6
-    rest)))))
-
--- 1, 8
-unfoldable pub late_cause : ℕ → Source → Report → ℕ → ℕ
-late_cause f s r n =
-    pick (filtered r.ident && not (passes s.places r.ident)) 1
-    (pick (too_big f r n) 8
-    0)
-
 -- reports: 7, 2, 4, 3, 5, 6, 1, 8
-unfoldable pub report_cause : ℕ → ℕ → Source → Report → ℕ → ℕ
-report_cause count f s r n = early_cause count s r n (late_cause f s r n)
+unfoldable pub report_cause : ℕ → ℕ → Source → Report → ℕ → Result Unit Cause
+report_cause count f s r n =
+    guard (time_ok r.time) Cause.BadTime
+    (guard (ltb r.source count) Cause.NoSource
+    (guard (same_kind s.kind (kind_of r.ident)) Cause.OtherKind
+    (guard s.started Cause.NotStarted
+    (guard r.ranged Cause.OutOfRange
+    (guard (leb n (most_of r.ident)) Cause.PayloadTooLong
+    (guard (not (filtered r.ident) || passes s.places r.ident) Cause.Unmatched
+    (guard (not (too_big f r n)) Cause.TooBig
+    (Ok tt))))))))
 
 -- the frame-bound bits are written, which makes the byte known (rule 4)
 unfoldable pub noted : Source → Report → Source
@@ -116,7 +109,6 @@ noted s r = record {
   state = bit_or (bit_and s.state r.kept) r.raised;
   known = s.known || ltb r.kept 255;
   shown = s.shown;
-  told = s.told;
   heard = s.heard;
   places = s.places;
 }
@@ -143,8 +135,7 @@ settled s r = record {
   started = s.started;
   state = bit_and (noted s r).state r.kept;
   known = (noted s r).known;
-  shown = pick (offer_of s r).due (noted s r).state s.shown;
-  told = s.told || (offer_of s r).due;
+  shown = pick (offer_of s r).due (Some (noted s r).state) s.shown;
   heard = true;
   places = s.places;
 }

@@ -1,8 +1,10 @@
 -- A source (docs/RULES.md, "The engine", "Filters", rules 4 and 6).
-use Rattle.std.specs.Prelude.{ℕ, suc, Bool, true, false, not, ◌&&◌, ◌||◌, List, [], ◌∷◌, replicate, get_or, set, leb, ltb, eqb}
+use Rattle.std.specs.Prelude.{ℕ, suc, Bool, true, false, not, ◌&&◌, ◌||◌, List, [], ◌∷◌, replicate, get_or, set, ltb, eqb, Option, Some, None, Result, Ok}
 use Rattle.codec.specs.Choice.{pick}
 use Rattle.codec.specs.declared.ident.Kind.{Kind}
 use Rattle.codec.specs.declared.ident.Ident.{Ident}
+use Rattle.framer.specs.Cause.{guard}
+use Rattle.framer.specs.declared.cause.Cause.{Cause}
 use Rattle.framer.specs.declared.offer.Offer.{Offer}
 use Rattle.bus.specs.Filter.{matches, is_free, same_kind}
 use Rattle.bus.specs.declared.filter.Filter.{Filter}
@@ -21,8 +23,7 @@ fresh_source kind network = record {
   started = false;
   state = 0;
   known = false;
-  shown = 0;
-  told = false;
+  shown = None;
   heard = false;
   places = replicate 8 free_place;
 }
@@ -39,8 +40,7 @@ started_source s = record {
   started = true;
   state = 0;
   known = false;
-  shown = 0;
-  told = false;
+  shown = None;
   heard = s.heard;
   places = s.places;
 }
@@ -54,7 +54,6 @@ stopped_source s = record {
   state = s.state;
   known = s.known;
   shown = s.shown;
-  told = s.told;
   heard = s.heard;
   places = s.places;
 }
@@ -69,14 +68,18 @@ abbrev pub free_at : List Place → ℕ
 free_at [] = 0
 free_at (p ∷ ps) = pick (is_free p.filter) 0 (suc (free_at ps))
 
+-- the lowest free place of eight
+unfoldable pub free_in : List Place → Option ℕ
+free_in ps = pick (ltb (free_at ps) 8) (Some (free_at ps)) None
+
 -- filter adding: 2, 4, 9, 10
-unfoldable pub add_cause : ℕ → Source → Addition → ℕ
+unfoldable pub add_cause : ℕ → Source → Addition → Result Unit Cause
 add_cause count s a =
-    pick (leb count a.source) 2
-    (pick (not (same_kind s.kind a.kind)) 4
-    (pick (not a.good) 9
-    (pick (eqb (free_at s.places) 8) 10
-    0)))
+    guard (ltb a.source count) Cause.NoSource
+    (guard (same_kind s.kind a.kind) Cause.OtherKind
+    (guard a.good Cause.BadFilter
+    (guard (ltb (free_at s.places) 8) Cause.NoPlace
+    (Ok tt))))
 
 -- the same source with other places
 abbrev pub with_places : Source → List Place → Source
@@ -87,7 +90,6 @@ with_places s ps = record {
   state = s.state;
   known = s.known;
   shown = s.shown;
-  told = s.told;
   heard = s.heard;
   places = ps;
 }
@@ -97,16 +99,23 @@ unfoldable pub added_filter : Source → Filter → Source
 added_filter s f = pick (ltb (free_at s.places) 8) (with_places s (set s.places (free_at s.places) (record { filter = f }))) s
 
 -- removing: 11, no such filter
-unfoldable pub remove_cause : Source → ℕ → ℕ
-remove_cause s number = pick (leb 8 number) 11 (pick (is_free (get_or s.places number free_place).filter) 11 0)
+unfoldable pub remove_cause : Source → ℕ → Result Unit Cause
+remove_cause s number =
+    guard (ltb number 8) Cause.NoFilter
+    (guard (not (is_free (get_or s.places number free_place).filter)) Cause.NoFilter
+    (Ok tt))
 
 -- a removed place is free again
 unfoldable pub removed_filter : Source → ℕ → Source
 removed_filter s number = pick (ltb number 8) (with_places s (set s.places number free_place)) s
 
 -- the state is known, and was never shown or differs from the last shown (rules 4 and 6)
+abbrev pub is_byte : Option ℕ → ℕ → Bool
+is_byte (Some x) byte = eqb x byte
+is_byte None byte = false
+
 unfoldable pub due : Source → Bool
-due s = s.known && not (s.told && eqb s.shown s.state)
+due s = s.known && not (is_byte s.shown s.state)
 
 -- a tick shows it for a started source from which no report was accepted since the last tick (rule 6)
 unfoldable pub tick_due : Source → Bool
@@ -124,8 +133,7 @@ calmed s = record {
   started = s.started;
   state = s.state;
   known = s.known;
-  shown = pick (tick_due s) s.state s.shown;
-  told = s.told || tick_due s;
+  shown = pick (tick_due s) (Some s.state) s.shown;
   heard = false;
   places = s.places;
 }

@@ -1,7 +1,9 @@
 -- State updates (docs/RULES.md, "Frame bytes"; Specification of Bus Mirroring, 7.4.2.2.7).
-use Rattle.std.specs.Prelude.{ℕ, ◌+◌, ◌*◌, ◌/◌, ◌%◌, min, Bool, true, not, ◌&&◌, leb, eqb}
+use Rattle.std.specs.Prelude.{ℕ, ◌+◌, ◌*◌, ◌/◌, ◌%◌, min, Bool, true, not, ◌&&◌, leb, ltb, eqb, Result, Ok}
 use Rattle.codec.specs.Choice.{pick, bit}
 use Rattle.codec.specs.declared.ident.Kind.{Kind}
+use Rattle.framer.specs.Cause.{guard}
+use Rattle.framer.specs.declared.cause.Cause.{Cause}
 use Rattle.bus.specs.Filter.{same_kind}
 use Rattle.bus.specs.declared.source.Source.{Source}
 use Rattle.bus.specs.declared.update.Update.{Update}
@@ -37,13 +39,13 @@ flexray_update source online bits = record {
 }
 
 -- state updates: 2, 4, 3, 5
-unfoldable pub update_cause : ℕ → Source → Update → ℕ
+unfoldable pub update_cause : ℕ → Source → Update → Result Unit Cause
 update_cause count s u =
-    pick (leb count u.source) 2
-    (pick (not (same_kind s.kind u.kind)) 4
-    (pick (not s.started) 3
-    (pick (not u.good) 5
-    0)))
+    guard (ltb u.source count) Cause.NoSource
+    (guard (same_kind s.kind u.kind) Cause.OtherKind
+    (guard s.started Cause.NotStarted
+    (guard u.good Cause.OutOfRange
+    (Ok tt))))
 
 -- an update makes the byte known (rule 4)
 unfoldable pub updated : Source → Update → Source
@@ -54,7 +56,6 @@ updated s u = record {
   state = u.state;
   known = true;
   shown = s.shown;
-  told = s.told;
   heard = s.heard;
   places = s.places;
 }

@@ -2,7 +2,7 @@
 ghost use Rattle.std.specs.Prelude.{◌≡◌, false, ◌&&◌, ℕ, ◌%◌, leb};
 ghost use Rattle.codec.specs.declared.ident.Ident.TheVariants as Ident;
 ghost use Rattle.bus.specs.Source.{passes};
-ghost use Rattle.bus.specs.Filter.{keyed, slotted, matches, filtered, is_free, same_kind, can_mask, can_range, lin_mask, lin_range, slots_of, cycled};
+ghost use Rattle.bus.specs.Filter.{keyed, slotted, matches, filtered, is_free, mask_of, range_of, can_mask, can_range, lin_mask, lin_range, slots_of, cycled};
 
 use codec::ident::{Ident, Kind};
 
@@ -53,28 +53,13 @@ pub fn low16(x: u32) -> u16
 fn asks_for_key(f: Filter) -> bool
     ensures { result ≡ false → (key : ℕ) → keyed f key ≡ false }
 {
-    match f {
-        Filter::Free => false,
-        Filter::Mask { mask: _, code: _ } => true,
-        Filter::Range { lower: _, upper: _ } => true,
-        Filter::Slots {
-            low: _,
-            high: _,
-            low_cycle: _,
-            high_cycle: _,
-            repetition: _,
-        } => false,
-    }
+    matches!(f, Filter::Mask { .. } | Filter::Range { .. })
 }
 
-// The upper bound is tested where the lower one holds.
 fn within(low: u32, high: u32, x: u32) -> bool
     ensures { result ≡ (leb low x && leb x high) }
 {
-    if x < low {
-        return false;
-    }
-    x <= high
+    low <= x && x <= high
 }
 
 fn key_matches(f: Filter, key: u32) -> bool
@@ -84,16 +69,9 @@ fn key_matches(f: Filter, key: u32) -> bool
         return false;
     }
     match f {
-        Filter::Free => false,
         Filter::Mask { mask, code } => key & mask == code,
         Filter::Range { lower, upper } => within(lower, upper, key),
-        Filter::Slots {
-            low: _,
-            high: _,
-            low_cycle: _,
-            high_cycle: _,
-            repetition: _,
-        } => false,
+        _ => false,
     }
 }
 
@@ -106,7 +84,7 @@ fn cycle_matches(cycle: u8, low: u8, high: u8, repetition: u8) -> bool
         return false;
     }
     let c = cycle % repetition;
-    within(low as u32, high as u32, c as u32)
+    within(u32::from(low), u32::from(high), u32::from(c))
 }
 
 // The cycle comes last: its remainder is a division.
@@ -114,9 +92,6 @@ fn slot_matches(f: Filter, slot: u16, cycle: u8) -> bool
     ensures { result ≡ slotted f slot cycle }
 {
     match f {
-        Filter::Free => false,
-        Filter::Mask { mask: _, code: _ } => false,
-        Filter::Range { lower: _, upper: _ } => false,
         Filter::Slots {
             low,
             high,
@@ -124,11 +99,10 @@ fn slot_matches(f: Filter, slot: u16, cycle: u8) -> bool
             high_cycle,
             repetition,
         } => {
-            if within(low as u32, high as u32, slot as u32) {
-                return cycle_matches(cycle, low_cycle, high_cycle, repetition);
-            }
-            false
+            within(u32::from(low), u32::from(high), u32::from(slot))
+                && cycle_matches(cycle, low_cycle, high_cycle, repetition)
         }
+        _ => false,
     }
 }
 
@@ -136,32 +110,14 @@ fn slot_matches(f: Filter, slot: u16, cycle: u8) -> bool
 pub(crate) fn key_passes(places: [Place; 8], key: u32) -> bool
     ensures { result ≡ passes places (Ident.Can key) }
 {
-    let mut i: usize = 0;
-    while i < 8 {
-        let place = places[i];
-        let filter = place.filter;
-        if key_matches(filter, key) {
-            return true;
-        }
-        i += 1;
-    }
-    false
+    places.iter().any(|place| key_matches(place.filter, key))
 }
 
 // Whether one of a source's places matches a slot and a cycle, on whatever channels.
 pub(crate) fn slot_passes(places: [Place; 8], slot: u16, cycle: u8) -> bool
     ensures { result ≡ passes places (Ident.FlexRay 0 slot cycle) }
 {
-    let mut i: usize = 0;
-    while i < 8 {
-        let place = places[i];
-        let filter = place.filter;
-        if slot_matches(filter, slot, cycle) {
-            return true;
-        }
-        i += 1;
-    }
-    false
+    places.iter().any(|place| slot_matches(place.filter, slot, cycle))
 }
 
 // One filter's answer. A walk over places asks the functions above, since it knows the kind of id.
@@ -170,14 +126,9 @@ pub fn filter_matches(f: Filter, id: Ident) -> bool
 {
     match id {
         Ident::Can(key) => key_matches(f, key),
-        Ident::Lin(pid) => key_matches(f, (pid & 63) as u32),
-        Ident::FlexRay {
-            channels: _,
-            slot,
-            cycle,
-        } => slot_matches(f, slot, cycle),
-        Ident::FlexRayError(_) => false,
-        Ident::Bare(_) => false,
+        Ident::Lin(pid) => key_matches(f, u32::from(pid & 63)),
+        Ident::FlexRay { slot, cycle, .. } => slot_matches(f, slot, cycle),
+        Ident::FlexRayError(_) | Ident::Bare(_) => false,
     }
 }
 
@@ -185,89 +136,66 @@ pub fn filter_matches(f: Filter, id: Ident) -> bool
 pub fn filtered(id: Ident) -> bool
     ensures { result ≡ filtered id }
 {
-    match id {
-        Ident::Can(_) => true,
-        Ident::Lin(_) => true,
-        Ident::FlexRay {
-            channels: _,
-            slot: _,
-            cycle: _,
-        } => true,
-        Ident::FlexRayError(_) => false,
-        Ident::Bare(_) => true,
-    }
+    !matches!(id, Ident::FlexRayError(_))
 }
 
 pub fn is_free(f: Filter) -> bool
     ensures { result ≡ is_free f }
 {
-    match f {
-        Filter::Free => true,
-        Filter::Mask { mask: _, code: _ } => false,
-        Filter::Range { lower: _, upper: _ } => false,
-        Filter::Slots {
-            low: _,
-            high: _,
-            low_cycle: _,
-            high_cycle: _,
-            repetition: _,
-        } => false,
+    matches!(f, Filter::Free)
+}
+
+// A filter of keys, each at most so large.
+#[tactic(auto, unfolding(crate::specs::Filter::mask_of))]
+fn mask_up_to(source: u64, kind: Kind, most: u32, mask: u32, code: u32) -> Addition
+    ensures { result ≡ mask_of source kind most mask code }
+{
+    Addition {
+        source,
+        kind,
+        good: (mask <= most) & (code <= most),
+        filter: Filter::Mask { mask, code },
     }
 }
 
-#[tactic(auto, unfolding(crate::specs::Filter::same_kind))]
-pub fn same_kind(a: Kind, b: Kind) -> bool
-    ensures { result ≡ same_kind a b }
+#[tactic(auto, unfolding(crate::specs::Filter::range_of))]
+fn range_up_to(source: u64, kind: Kind, most: u32, lower: u32, upper: u32) -> Addition
+    ensures { result ≡ range_of source kind most lower upper }
 {
-    codec::ident::network_type(a) == codec::ident::network_type(b)
+    Addition {
+        source,
+        kind,
+        good: (lower <= upper) & (upper <= most),
+        filter: Filter::Range { lower, upper },
+    }
 }
 
-#[tactic(auto, unfolding(crate::specs::Filter::can_mask))]
+#[tactic(auto, unfolding(crate::specs::Filter::can_mask, crate::specs::Filter::mask_of))]
 pub fn can_mask(source: u64, mask: u32, code: u32) -> Addition
     ensures { result ≡ can_mask source mask code }
 {
-    Addition {
-        source,
-        kind: Kind::Can,
-        good: true,
-        filter: Filter::Mask { mask, code },
-    }
+    mask_up_to(source, Kind::Can, u32::MAX, mask, code)
 }
 
-#[tactic(auto, unfolding(crate::specs::Filter::can_range))]
+#[tactic(auto, unfolding(crate::specs::Filter::can_range, crate::specs::Filter::range_of))]
 pub fn can_range(source: u64, lower: u32, upper: u32) -> Addition
     ensures { result ≡ can_range source lower upper }
 {
-    Addition {
-        source,
-        kind: Kind::Can,
-        good: lower <= upper,
-        filter: Filter::Range { lower, upper },
-    }
+    range_up_to(source, Kind::Can, u32::MAX, lower, upper)
 }
 
-#[tactic(auto, unfolding(crate::specs::Filter::lin_mask))]
+#[tactic(auto, unfolding(crate::specs::Filter::lin_mask, crate::specs::Filter::mask_of))]
 pub fn lin_mask(source: u64, mask: u32, code: u32) -> Addition
     ensures { result ≡ lin_mask source mask code }
 {
-    Addition {
-        source,
-        kind: Kind::Lin,
-        good: (mask <= 63) & (code <= 63),
-        filter: Filter::Mask { mask, code },
-    }
+    mask_up_to(source, Kind::Lin, 63, mask, code)
 }
 
-#[tactic(auto, unfolding(crate::specs::Filter::lin_range))]
+#[tactic(auto, unfolding(crate::specs::Filter::lin_range, crate::specs::Filter::range_of))]
 pub fn lin_range(source: u64, lower: u32, upper: u32) -> Addition
     ensures { result ≡ lin_range source lower upper }
 {
-    Addition {
-        source,
-        kind: Kind::Lin,
-        good: (lower <= upper) & (upper <= 63),
-        filter: Filter::Range { lower, upper },
-    }
+    range_up_to(source, Kind::Lin, 63, lower, upper)
 }
 
 #[tactic(auto, unfolding(crate::specs::Filter::slots_of))]
@@ -290,9 +218,9 @@ pub fn slots(
         filter: Filter::Slots {
             low: low16(low),
             high: low16(high),
-            low_cycle: codec::number::low8(low_cycle as u64),
-            high_cycle: codec::number::low8(high_cycle as u64),
-            repetition: codec::number::low8(repetition as u64),
+            low_cycle: codec::number::low8(u64::from(low_cycle)),
+            high_cycle: codec::number::low8(u64::from(high_cycle)),
+            repetition: codec::number::low8(u64::from(repetition)),
         },
     }
 }

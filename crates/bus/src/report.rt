@@ -1,13 +1,13 @@
 // Reports of the three buses as one kind of thing: whether one is refused, what it hands over to be mirrored,
 // and what it leaves of its source.
 ghost use Rattle.std.specs.Prelude.{◌≡◌, true, false};
-ghost use Rattle.codec.specs.Ident.{flexray_range};
-ghost use Rattle.bus.specs.Report.{can_report, lin_report, flexray_report, frame_report, conflict_report, error_bits, error_report, too_big, early_cause, late_cause, report_cause, noted, insists, offer_of, settled};
+ghost use Rattle.bus.specs.Report.{can_report, lin_report, flexray_report, frame_report, conflict_report, error_bits, error_report, too_big, report_cause, noted, insists, offer_of, settled};
 
 use crate::source::Source;
 use codec::ident::Ident;
-use codec::item::{Item, State};
+use codec::item::Item;
 use codec::time::{Ticks, Time};
+use framer::cause::{Cause, check};
 use framer::offer::Offer;
 
 #[derive(Clone, Copy)]
@@ -21,13 +21,6 @@ pub struct Report {
     // the bits of the state byte that are not bound to this frame, and the frame-bound ones that it raises
     pub kept: u8,
     pub raised: u8,
-}
-
-#[tactic(auto, unfolding(codec::specs::Ident::flexray_range))]
-fn flexray_ok(channels: u32, slot: u32, cycle: u32) -> bool
-    ensures { result ≡ flexray_range channels slot cycle }
-{
-    (1 <= channels) & (channels <= 3) & (1 <= slot) & (slot <= 2047) & (cycle <= 63)
 }
 
 #[tactic(auto, unfolding(crate::specs::Report::can_report))]
@@ -84,7 +77,7 @@ fn flexray_report(
             cycle: codec::number::low8(cycle as u64),
         },
         carries,
-        ranged: flexray_ok(channels, slot, cycle),
+        ranged: codec::ident::flexray_range(channels, slot, cycle),
         kept,
         raised,
     }
@@ -135,52 +128,27 @@ fn too_big(f: usize, r: Report, n: u8) -> bool
     let item = Item {
         offset: Ticks(0),
         network: 0,
-        state: State::Byte(0),
+        state: Some(0),
         ident,
         carries: r.carries,
     };
     f < 14 + codec::item::item_len(item, n)
 }
 
-// 7, 2, 4, 3, 5, 6
-#[tactic(auto, unfolding(crate::specs::Report::early_cause))]
-fn early_cause(count: usize, s: Source, r: Report, n: usize) -> u8
-    ensures { result ≡ early_cause count s r n 0 }
-{
-    let ident = r.ident;
-    let own = s.kind;
-    let long = crate::source::first(codec::ident::most_of(ident) < n, 6, 0);
-    let range = crate::source::first(!r.ranged, 5, long);
-    let start = crate::source::first(!s.started, 3, range);
-    let kind = crate::source::first(
-        !crate::filter::same_kind(own, codec::ident::kind_of(ident)),
-        4,
-        start,
-    );
-    let source = crate::source::first(count as u64 <= r.source, 2, kind);
-    crate::source::first(!codec::time::in_range(r.time), 7, source)
-}
-
-// 1, 8
-#[tactic(auto, unfolding(crate::specs::Report::late_cause))]
-fn late_cause(f: usize, s: Source, r: Report, n: u8) -> u8
-    ensures { result ≡ late_cause f s r n }
-{
-    let ident = r.ident;
-    let big = crate::source::first(too_big(f, r, n), 8, 0);
-    crate::source::first(crate::filter::filtered(ident) & !s.passes(ident), 1, big)
-}
-
-// The first cause of refusing the report, with a payload of n bytes, to a frame of at most f bytes, or 0.
-#[tactic(auto, unfolding(crate::specs::Report::report_cause))]
-pub fn report_cause(count: usize, f: usize, s: Source, r: Report, n: usize) -> u8
+// What speaks against the report, with a payload of n bytes, to a frame of at most f bytes: 7, 2, 4, 3, 5, 6, 1, 8.
+#[tactic(auto, using(codec::proofs::ItemLaws::most_small), unfolding(crate::specs::Report::report_cause, crate::specs::Filter::same_kind))]
+pub fn report_cause(count: usize, f: usize, s: Source, r: Report, n: usize) -> Result<(), Cause>
     ensures { result ≡ report_cause count f s r n }
 {
-    let early = early_cause(count, s, r, n);
-    if early != 0 {
-        return early;
-    }
-    late_cause(f, s, r, n as u8)
+    let ident = r.ident;
+    check(codec::time::in_range(r.time), Cause::BadTime)?;
+    check(r.source < count as u64, Cause::NoSource)?;
+    check(s.kind == codec::ident::kind_of(ident), Cause::OtherKind)?;
+    check(s.started, Cause::NotStarted)?;
+    check(r.ranged, Cause::OutOfRange)?;
+    check(n <= codec::ident::most_of(ident), Cause::PayloadTooLong)?;
+    check(!crate::filter::filtered(ident) | s.passes(ident), Cause::Unmatched)?;
+    check(!too_big(f, r, n as u8), Cause::TooBig)
 }
 
 // The frame-bound bits written into the current byte.
@@ -224,8 +192,9 @@ pub fn settle(s: Source, r: Report) -> Source
     let o = offer(s, r);
     let mut n = note(s, r);
     n.state = o.state & r.kept;
-    n.shown = crate::source::first(o.due, o.state, s.shown);
-    n.told = s.told | o.due;
+    if o.due {
+        n.shown = Some(o.state);
+    }
     n.heard = true;
     n
 }

@@ -1,11 +1,11 @@
 // A source: what it is, its state byte, what of it was shown, and its eight filter places.
 ghost use Rattle.std.specs.Prelude.{◌≡◌};
-ghost use Rattle.codec.specs.Choice.{pick};
-ghost use Rattle.codec.specs.Number.{Below};
-ghost use Rattle.bus.specs.Source.{fresh_source, reset_source, started_source, stopped_source, passes, free_at, add_cause, added_filter, remove_cause, removed_filter, due, tick_due, state_offer, calmed};
+ghost use Rattle.framer.specs.Cause.{gives};
+ghost use Rattle.bus.specs.Source.{fresh_source, reset_source, started_source, stopped_source, passes, free_at, free_in, add_cause, added_filter, remove_cause, removed_filter, due, tick_due, state_offer, calmed};
 
 use crate::filter::{Addition, Filter, Place};
 use codec::ident::{Ident, Kind};
+use framer::cause::{Cause, check};
 use framer::offer::Offer;
 
 #[derive(Clone, Copy)]
@@ -16,9 +16,8 @@ pub struct Source {
     // the current state byte without bit 7, and whether it is known
     pub state: u8,
     pub known: bool,
-    // the state byte shown last, and whether one was
-    pub shown: u8,
-    pub told: bool,
+    // the state byte shown last
+    pub shown: Option<u8>,
     // a report was accepted since the last tick
     pub heard: bool,
     pub places: [Place; 8],
@@ -37,18 +36,10 @@ pub fn fresh(kind: Kind, network: u8) -> Source
         started: false,
         state: 0,
         known: false,
-        shown: 0,
-        told: false,
+        shown: None,
         heard: false,
         places: [place; 8],
     }
-}
-
-// The first of several tests that holds gives the answer.
-pub fn first(bad: bool, answer: u8, rest: u8) -> u8
-    ensures { result ≡ pick bad answer rest }
-{
-    if bad { answer } else { rest }
 }
 
 impl Source {
@@ -67,8 +58,7 @@ impl Source {
         self.started = true;
         self.state = 0;
         self.known = false;
-        self.shown = 0;
-        self.told = false;
+        self.shown = None;
         self
     }
 
@@ -100,59 +90,44 @@ impl Source {
         crate::filter::key_passes(places, key)
     }
 
-    // The lowest free place, or 8.
-    pub fn free_place(self) -> usize
-        ensures { Below (free_at self.places) 9 result }
+    // The lowest free place.
+    pub fn free_place(self) -> Option<usize>
+        ensures { result ≡ free_in self.places }
     {
-        let mut i: usize = 0;
-        while i < 8 {
-            let place = self.places[i];
-            let filter = place.filter;
-            if crate::filter::is_free(filter) {
-                return i;
-            }
-            i += 1;
-        }
-        8
+        self.places.iter().position(|place| crate::filter::is_free(place.filter))
     }
 
-    // 2, 4, 9, 10
-    #[tactic(auto, unfolding(crate::specs::Source::add_cause))]
-    pub fn add_cause(self, count: usize, a: Addition) -> u8
-        ensures { result ≡ add_cause count self a }
+    // 2, 4, 9, 10; else the place that a filter gets, which is its number.
+    #[tactic(auto, unfolding(crate::specs::Source::add_cause, crate::specs::Source::free_in, crate::specs::Filter::same_kind))]
+    pub fn place_for(self, count: usize, a: Addition) -> Result<usize, Cause>
+        ensures { result ≡ gives (add_cause count self a) (free_at self.places) }
     {
-        let own = self.kind;
-        let other = a.kind;
-        let full = first(self.free_place() == 8, 10, 0);
-        let range = first(!a.good, 9, full);
-        let kind = first(!crate::filter::same_kind(own, other), 4, range);
-        first(count as u64 <= a.source, 2, kind)
+        check(a.source < count as u64, Cause::NoSource)?;
+        check(self.kind == a.kind, Cause::OtherKind)?;
+        check(a.good, Cause::BadFilter)?;
+        self.free_place().ok_or(Cause::NoPlace)
     }
 
     // The filter goes to the lowest free place, if there is one.
-    #[tactic(auto, unfolding(crate::specs::Source::added_filter))]
+    #[tactic(auto, unfolding(crate::specs::Source::added_filter, crate::specs::Source::free_in))]
     pub fn add_filter(mut self, filter: Filter) -> Source
         ensures { result ≡ added_filter self filter }
     {
-        let k = self.free_place();
-        if k < 8 {
+        if let Some(k) = self.free_place() {
             self.places[k] = Place { filter };
-            return self;
         }
         self
     }
 
     // 11
     #[tactic(auto, unfolding(crate::specs::Source::remove_cause))]
-    pub fn remove_cause(self, number: u64) -> u8
+    pub fn remove_cause(self, number: u64) -> Result<(), Cause>
         ensures { result ≡ remove_cause self number }
     {
-        if 8 <= number {
-            return 11;
-        }
+        check(number < 8, Cause::NoFilter)?;
         let place = self.places[number as usize];
         let filter = place.filter;
-        first(crate::filter::is_free(filter), 11, 0)
+        check(!crate::filter::is_free(filter), Cause::NoFilter)
     }
 
     #[tactic(auto, unfolding(crate::specs::Source::removed_filter))]
@@ -163,7 +138,6 @@ impl Source {
             self.places[number as usize] = Place {
                 filter: Filter::Free,
             };
-            return self;
         }
         self
     }
@@ -173,7 +147,7 @@ impl Source {
     pub fn due(self) -> bool
         ensures { result ≡ due self }
     {
-        self.known & !(self.told & (self.shown == self.state))
+        self.known & (self.shown != Some(self.state))
     }
 
     #[tactic(auto, unfolding(crate::specs::Source::tick_due))]
@@ -202,9 +176,9 @@ impl Source {
     pub fn calm(mut self) -> Source
         ensures { result ≡ calmed self }
     {
-        let shows = self.tick_due();
-        self.shown = first(shows, self.state, self.shown);
-        self.told = self.told | shows;
+        if self.tick_due() {
+            self.shown = Some(self.state);
+        }
         self.heard = false;
         self
     }

@@ -5,6 +5,7 @@ ghost use Rattle.codec.specs.Number.{Below};
 
 use crate::source::Source;
 use codec::ident::Kind;
+use framer::cause::{Cause, check};
 
 #[derive(Clone, Copy)]
 pub struct Update {
@@ -72,16 +73,14 @@ pub fn flexray(source: u64, online: bool, bits: u32) -> Update
 }
 
 // 2, 4, 3, 5
-#[tactic(auto, unfolding(crate::specs::Update::update_cause))]
-pub fn update_cause(count: usize, s: Source, u: Update) -> u8
+#[tactic(auto, unfolding(crate::specs::Update::update_cause, crate::specs::Filter::same_kind))]
+pub fn update_cause(count: usize, s: Source, u: Update) -> Result<(), Cause>
     ensures { result ≡ update_cause count s u }
 {
-    let own = s.kind;
-    let other = u.kind;
-    let value = crate::source::first(!u.good, 5, 0);
-    let start = crate::source::first(!s.started, 3, value);
-    let kind = crate::source::first(!crate::filter::same_kind(own, other), 4, start);
-    crate::source::first(count as u64 <= u.source, 2, kind)
+    check(u.source < count as u64, Cause::NoSource)?;
+    check(s.kind == u.kind, Cause::OtherKind)?;
+    check(s.started, Cause::NotStarted)?;
+    check(u.good, Cause::OutOfRange)
 }
 
 #[tactic(auto, unfolding(crate::specs::Update::updated))]

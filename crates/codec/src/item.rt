@@ -15,7 +15,7 @@ pub struct Item {
     // the state byte that the item shows
     pub state: Option<u8>,
     pub ident: Ident,
-    // whether a payload is present, which may be empty; it stays beside the item (the paper's form for items)
+    // whether a payload is present, which may be empty; it stays beside the item (docs/DECISIONS.md, "Forms that are asked for")
     pub carries: bool,
 }
 

@@ -1,4 +1,4 @@
-// Big-endian numbers of any width, written over a slice at an index and read from one. The slice and the index stay two arguments:
+// Big-endian numbers of any width, written over a slice at an index and read from one. The slice and the index stay apart:
 // what is written lies within a frame of the caller's, which a struct of both would have to borrow anew for each number.
 ghost use Rattle.std.specs.Prelude.{◌≡◌, true, ◌+◌, ◌≤◌, ◌<◌, ◌%◌, ◌^◌, length, IfSome, MatchOption};
 ghost use Rattle.codec.specs.Number.{Wrote, Word, be, val, word_at, get_of, part_of};

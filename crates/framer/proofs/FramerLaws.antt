@@ -1,22 +1,24 @@
 -- Laws of the framer's definitions.
-use Rattle.std.proofs.Common.{◌≡◌, ℕ, ◌+◌, ◌-◌, ◌*◌, ◌/◌, ◌%◌, ◌<◌, ◌≤◌, Bool, true, false, ◌||◌, eqb, ltb, leb, List, length, take, drop, set, replicate, sym, refl, ◌∙◌, true≢false, arith, length-take, ltb-false, ltb-true, le-ltb, lt-ltb, eq-eqb, ne_eqb, le-leb, leb-true}
+use Rattle.std.proofs.Common.{◌≡◌, ℕ, ◌+◌, ◌-◌, ◌*◌, ◌/◌, ◌%◌, ◌<◌, ◌≤◌, Bool, true, false, ◌||◌, eqb, ltb, leb, List, length, take, drop, set, replicate, sym, refl, ◌∙◌, true≢false, arith, length-take, ltb-false, ltb-true, le-ltb, lt-ltb, eq-eqb, rules, not, ne_eqb, le-leb, leb-true}
 use mathlib.Core.Bool.{false≢true}
 use Rattle.codec.specs.Choice.{pick}
 use Rattle.codec.proofs.BoolLaws.{and_l, and_r}
-use borrow.Author.Tests.{lt-leb}
+use borrow.Author.Tests.{lt-leb, eqb-false, not-true}
 use Rattle.codec.specs.Time.{ns, elapsed, ticks_of, behind_by, overdue_of}
 use Rattle.codec.specs.Item.{item_length}
 use Rattle.codec.specs.declared.time.Time.{Time}
 use Rattle.framer.specs.declared.offer.Offer.{Offer}
 use Rattle.framer.specs.declared.meter.Meter.{Meter}
 use Rattle.codec.specs.Number.{over, fits, Wrote}
+use Rattle.framer.specs.declared.cause.Cause.{Cause}
 use Rattle.framer.specs.declared.queue.Queue.{Queue}
+use Rattle.std.specs.Prelude.{Option, Result, Ok, Err}
+use Rattle.framer.specs.Cause.{number_of, answer_of, guard}
 use Rattle.framer.specs.Queue.{queued, length_at}
 use Rattle.framer.specs.Meter.{closes_for, is_within, back_in, item_of, sound_meter, Sound, start_of, closed_meter, slot_of, counted, placed_meter, taken_meter, failed_meter, offset_for}
-use Rattle.framer.specs.Framer.{closed, begun, laid_out, item_size, filled_meter, filled_bytes, placed, added, add, passed, not_taken, take_of, out_of}
+use Rattle.framer.specs.Framer.{closed, begun, laid_out, item_size, filled_meter, filled_bytes, placed, added, add, passed, ready_of, take_of, out_of}
 use Rattle.framer.specs.declared.framer.Framer.{Framer}
 use Rattle.codec.specs.declared.item.Item.{Item}
-use Rattle.codec.specs.declared.number.Put.{Put}
 use Rattle.codec.specs.Field.{bytes_at}
 use Rattle.codec.proofs.NumberLaws.{kept}
 
@@ -197,22 +199,6 @@ unfolding passed
 pass_by w r t b e h g er = rw (e, ne_eqb w.meter.filled 0 h, g, ← er)
 
 -- taking
-pub take_unsound : (w : Framer) (out : List ℕ) → sound_meter w.meter ≡ false → (not_taken w 19 ≡ take_of w (length out)) × (out ≡ out_of w out)
-unfolding take_of out_of
-take_unsound w out e = (rw e, rw e)
-
-pub take_none : (w : Framer) (out : List ℕ) → sound_meter w.meter ≡ true → w.meter.waiting ≡ 0 → (not_taken w 13 ≡ take_of w (length out)) × (out ≡ out_of w out)
-unfolding take_of out_of
-take_none w out e h = let z = eq-eqb w.meter.waiting 0 h in (rw (e, z), rw (e, z))
-
-pub take_short : (w : Framer) (out : List ℕ) (n : ℕ) → sound_meter w.meter ≡ true → (w.meter.waiting ≡ 0 → ⊥)
-    → n ≡ length_at w.queue w.meter.first → length out < n → (not_taken w 12 ≡ take_of w (length out)) × (out ≡ out_of w out)
-unfolding take_of out_of
-take_short w out n e h en g =
-    let z = ne_eqb w.meter.waiting 0 h in
-    let y = lt-ltb (length out) n g in
-    (rw (e, z, ← en, y), rw (e, z, ← en, y))
-
 -- the part of a slot is as long as its frame
 part_length : (s : List ℕ) (at n : ℕ) → length (bytes_at s at n) ≤ n
 unfolding bytes_at
@@ -222,17 +208,63 @@ part_length s at n = go (fits s at n) refl
     go true e = rw e (omega (arith, length-take n (drop at s)))
     go false e = rw e (omega arith)
 
-pub take_done : (w : Framer) (out : List ℕ) (n : ℕ) (m : Meter) (part after : List ℕ) {k : Put} → sound_meter w.meter ≡ true → (w.meter.waiting ≡ 0 → ⊥)
-    → n ≡ length_at w.queue w.meter.first → n ≤ length out → m ≡ taken_meter w.meter → part ≡ bytes_at w.queue.bytes (w.meter.first * 1024) n
-    → Wrote true out 0 part after k
-    → (record { framer = record { meter = m; bytes = w.bytes; queue = w.queue }; answer = 0; length = n } ≡ take_of w (length out)) × (after ≡ out_of w out)
+-- a cause has a number above 0
+pub caused : (c : Cause) → 1 ≤ number_of c
+caused Cause.Unmatched = omega arith
+caused Cause.NoSource = omega arith
+caused Cause.NotStarted = omega arith
+caused Cause.OtherKind = omega arith
+caused Cause.OutOfRange = omega arith
+caused Cause.PayloadTooLong = omega arith
+caused Cause.BadTime = omega arith
+caused Cause.TooBig = omega arith
+caused Cause.BadFilter = omega arith
+caused Cause.NoPlace = omega arith
+caused Cause.NoFilter = omega arith
+caused Cause.ShortOutput = omega arith
+caused Cause.NothingWaits = omega arith
+caused Cause.BadSetup = omega arith
+caused Cause.NothingOut = omega arith
+caused Cause.Unsound = omega arith
+
+pub answered_0 : {A : Type 0} (r : Result A Cause) → answer_of r ≡ 0 → (x : A) × (r ≡ Ok x)
+answered_0 (Ok x) e = (x, refl)
+answered_0 (Err c) e = let z : ⊥ = omega (arith, caused c) in absurd z
+
+-- a frame that a take gets: the rule holds, and the output has room
+pub record Ready (w : Framer) (room n : ℕ) : Type 0 where
+  pub sound : sound_meter w.meter ≡ true
+  pub waits : w.meter.waiting ≡ 0 → ⊥
+  pub long : n ≡ length_at w.queue w.meter.first
+  pub fits : n ≤ room
+
+pub passed-guard : {A : Type 0} (b : Bool) (c : Cause) (rest : Result A Cause) (x : A) → guard b c rest ≡ Ok x → (b ≡ true) × (rest ≡ Ok x)
+passed-guard true c rest x e = (refl, e)
+passed-guard false c rest x e = absurd (search rules)
+
+pub readied : (w : Framer) (room n : ℕ) → ready_of w room ≡ Ok n → Ready w room n
+unfolding ready_of
+readied w room n e =
+    let a = passed-guard (sound_meter w.meter) Cause.Unsound _ n e in
+    let b = passed-guard (not (eqb w.meter.waiting 0)) Cause.NothingWaits _ n a.1 in
+    let d = passed-guard (leb (length_at w.queue w.meter.first) room) Cause.ShortOutput _ n b.1 in
+    let k : length_at w.queue w.meter.first ≡ n = search rules in
+    record { sound = a.0; waits = eqb-false w.meter.waiting 0 (not-true _ b.0); long = sym k; fits = omega (arith, k, leb-true (length_at w.queue w.meter.first) room d.0) }
+
+pub take_refused : (w : Framer) (out : List ℕ) (r : Result ℕ Cause) (c : Cause) → r ≡ ready_of w (length out) → r ≡ Err c
+    → (record { framer = w; answer = r } ≡ take_of w (length out)) × (out ≡ out_of w out)
 unfolding take_of out_of
-take_done w out n m part after e h en g em ep ew =
-    let z = ne_eqb w.meter.waiting 0 h in
-    let y = le-ltb (length out) n g in
+take_refused w out r c e q = (rw (← e, q), rw (← e, q))
+
+pub take_done : (w : Framer) (out : List ℕ) (r : Result ℕ Cause) (n : ℕ) (m : Meter) (part after : List ℕ) {k : Option ℕ} → r ≡ ready_of w (length out)
+    → r ≡ Ok n → m ≡ taken_meter w.meter → part ≡ bytes_at w.queue.bytes (w.meter.first * 1024) n → Wrote true out 0 part after k
+    → (record { framer = record { meter = m; bytes = w.bytes; queue = w.queue }; answer = Ok n } ≡ take_of w (length out)) × (after ≡ out_of w out)
+unfolding take_of out_of
+take_done w out r n m part after e g em ep ew =
+    let z = readied w (length out) n (sym e ∙ g) in
     let f : length part ≤ n = rw ep (part_length w.queue.bytes (w.meter.first * 1024) n) in
-    let q : after ≡ over out 0 part = kept ew (omega arith) in
-    (rw (e, z, ← en, y, ← em), rw (e, z, ← en, y, ← ep) q)
+    let q : after ≡ over out 0 part = kept ew (omega (arith, z.fits)) in
+    (rw (← e, g, em), rw (← e, g, ← z.long, ← ep) q)
 
 -- a frame with an item is past its header
 pub placed_least : (m : Meter) (t : Time) (n : ℕ) → 14 ≤ start_of m → 14 ≤ (placed_meter m t n).filled

@@ -11,8 +11,9 @@ use Rattle.framer.specs.declared.offer.Offer.{Offer}
 use Rattle.framer.specs.declared.meter.Meter.{Meter}
 use Rattle.framer.specs.declared.framer.Framer.{Framer}
 use Rattle.framer.specs.Meter.{limits_ok, sound_meter, Sound, empty_meter, state_shown, item_of, offset_for, is_within, closes_for, closed_meter, start_of, placed_meter, taken_meter, failed_meter}
-use Rattle.framer.specs.Framer.{closed, item_size, filled_meter, placed, added, add, passed, not_taken, take_of, failed}
-use Rattle.framer.specs.Queue.{length_at}
+use Rattle.framer.specs.Framer.{closed, item_size, filled_meter, placed, added, add, passed, ready_of, left_by, take_of, failed}
+use Rattle.std.specs.Prelude.{Result, Ok, Err}
+use Rattle.framer.specs.declared.cause.Cause.{Cause}
 use Rattle.framer.proofs.FramerLaws.{sounds, sound_flag, start_least, closed_size, closes_never}
 use Rattle.codec.proofs.BoolLaws.{and_l, and_r}
 use Rattle.codec.proofs.Opened.{never}
@@ -195,7 +196,7 @@ kept_pass w t e = rw e (go (not (eqb w.meter.filled 0) && overdue_of (ns w.meter
     go false = e
 
 -- taking
-kept_taken : (m : Meter) → Sound m → Sound (taken_meter m)
+pub kept_taken : (m : Meter) → Sound m → Sound (taken_meter m)
 unfolding taken_meter
 kept_taken m s = go (eqb m.waiting 0) refl
   where
@@ -216,16 +217,11 @@ kept_taken m s = go (eqb m.waiting 0) refl
 
 pub kept_take : (w : Framer) (n : ℕ) → sound_meter w.meter ≡ true → sound_meter (take_of w n).framer.meter ≡ true
 unfolding take_of
-kept_take w n e = rw e (go (eqb w.meter.waiting 0) (ltb n (length_at w.queue w.meter.first)))
+kept_take w n e = go (ready_of w n)
   where
-    go : (a b : Bool) → sound_meter (pick a (not_taken w 13) (pick b (not_taken w 12) (record {
-      framer = record { meter = taken_meter w.meter; bytes = w.bytes; queue = w.queue };
-      answer = 0;
-      length = length_at w.queue w.meter.first;
-    }))).framer.meter ≡ true
-    go true b = e
-    go false true = e
-    go false false = sound_flag (kept_taken w.meter (sounds w.meter e))
+    go : (r : Result ℕ Cause) → sound_meter (left_by w r).meter ≡ true
+    go (Ok k) = sound_flag (kept_taken w.meter (sounds w.meter e))
+    go (Err c) = e
 
 -- the rule looks at nothing that a failed send changes
 pub kept_failed : (w : Framer) → sound_meter w.meter ≡ true → sound_meter (failed w).meter ≡ true

@@ -1,5 +1,5 @@
 -- The frame being filled, and the queue behind it (rules 1 to 3 and 6 to 8).
-use Rattle.std.specs.Prelude.{ℕ, ◌-◌, Bool, true, not, ◌&&◌, List, length, take, replicate, ◌==◌, nat_le, nat_lt}
+use Rattle.std.specs.Prelude.{ℕ, ◌-◌, Bool, true, not, ◌&&◌, List, length, take, replicate, ◌==◌, nat_le, nat_lt, Result, Ok, Err}
 use Rattle.codec.specs.Choice.{pick}
 use Rattle.codec.specs.Number.{be, over, fits_in}
 use Rattle.codec.specs.Time.{ns, time_ok, overdue_of}
@@ -8,8 +8,10 @@ use Rattle.codec.specs.Item.{encode, item_ok, item_length}
 use Rattle.codec.specs.declared.time.Time.{Time}
 use Rattle.codec.specs.declared.time.Millis.{Millis}
 use Rattle.codec.specs.declared.item.Item.{Item}
+use Rattle.framer.specs.Cause.{guard}
 use Rattle.framer.specs.Meter.{sound_meter, empty_meter, item_of, offset_for, closes_for, slot_of, closed_meter, start_of, placed_meter, taken_meter, failed_meter}
 use Rattle.framer.specs.Queue.{empty_queue, queued, length_at, frame_at}
+use Rattle.framer.specs.declared.cause.Cause.{Cause}
 use Rattle.framer.specs.declared.offer.Offer.{Offer}
 use Rattle.framer.specs.declared.meter.Meter.{Meter}
 use Rattle.framer.specs.declared.framer.Framer.{Framer}
@@ -75,26 +77,29 @@ passed w t =
     (pick (not (w.meter.filled == 0) && overdue_of (ns w.meter.time) (ns t) w.meter.deadline.0) (closed w) w)
     w
 
-abbrev pub not_taken : Framer → ℕ → Taken
-not_taken w answer = record { framer = w; answer = answer; length = 0 }
+-- how long the frame is that a take gets: 13, 12
+unfoldable pub ready_of : Framer → ℕ → Result ℕ Cause
+ready_of w room =
+    guard (sound_meter w.meter) Cause.Unsound
+    (guard (not (w.meter.waiting == 0)) Cause.NothingWaits
+    (guard (nat_le (length_at w.queue w.meter.first) room) Cause.ShortOutput
+    (Ok (length_at w.queue w.meter.first))))
 
--- take: 13, 12
+-- where one is taken it no longer waits
+abbrev pub left_by : Framer → Result ℕ Cause → Framer
+left_by w (Ok n) = record { meter = taken_meter w.meter; bytes = w.bytes; queue = w.queue }
+left_by w (Err c) = w
+
 unfoldable pub take_of : Framer → ℕ → Taken
-take_of w room =
-    pick (sound_meter w.meter)
-    (pick (w.meter.waiting == 0) (not_taken w 13)
-    (pick (nat_lt room (length_at w.queue w.meter.first)) (not_taken w 12)
-    (record {
-      framer = record { meter = taken_meter w.meter; bytes = w.bytes; queue = w.queue };
-      answer = 0;
-      length = length_at w.queue w.meter.first;
-    })))
-    (not_taken w 19)
+take_of w room = record { framer = left_by w (ready_of w room); answer = ready_of w room }
 
 -- the oldest waiting frame at the front of the output; later output bytes stay (rule 7)
+abbrev pub laid_by : Framer → List ℕ → Result ℕ Cause → List ℕ
+laid_by w out (Ok n) = over out 0 (frame_at w.queue w.meter.first)
+laid_by w out (Err c) = out
+
 unfoldable pub out_of : Framer → List ℕ → List ℕ
-out_of w out =
-    pick ((take_of w (length out)).answer == 0) (over out 0 (frame_at w.queue w.meter.first)) out
+out_of w out = laid_by w out (ready_of w (length out))
 
 -- the frame that is out has failed, if one is; no byte is touched (rule 8)
 unfoldable pub failed : Framer → Framer

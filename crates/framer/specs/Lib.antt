@@ -1,3 +1,4 @@
+pub mod Cause
 pub mod Meter
 pub mod Queue
 pub mod Framer

@@ -8,7 +8,7 @@ use Rattle.codec.specs.declared.time.Ticks.{Ticks}
 use Rattle.codec.specs.declared.time.Millis.{Millis}
 use Rattle.codec.specs.declared.time.Nanos.{Nanos}
 use Rattle.codec.specs.declared.time.Elapsed.{Elapsed}
-use Rattle.codec.specs.declared.item.State.{State}
+use Rattle.std.specs.Prelude.{Option, Some, None}
 use Rattle.codec.specs.declared.item.Item.{Item}
 use Rattle.framer.specs.declared.offer.Offer.{Offer}
 use Rattle.framer.specs.declared.meter.Meter.{Meter}
@@ -74,8 +74,8 @@ back_in Elapsed.TooFar = record { 0 = 0 }
 back_in (Elapsed.Backwards n) = n
 
 -- the state is shown where it is due or lost is pending, which sets bit 7 (rule 4)
-unfoldable pub state_shown : Bool → Offer → State
-state_shown lost o = pick lost (State.Byte (bit_or o.state 128)) (pick o.due (State.Byte o.state) State.Absent)
+unfoldable pub state_shown : Bool → Offer → Option ℕ
+state_shown lost o = pick lost (Some (bit_or o.state 128)) (pick o.due (Some o.state) None)
 
 unfoldable pub item_of : Bool → Ticks → Offer → Item
 item_of lost offset o =

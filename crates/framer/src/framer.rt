@@ -1,8 +1,9 @@
 // The frame being filled, and the queue behind it: rules 1 to 3, the deadline of rule 6, rules 7 and 8. It knows no bus.
 ghost use Rattle.std.specs.Prelude.{◌≡◌, ◌≤◌, length};
 ghost use Rattle.framer.specs.Meter.{placed_meter, start_of};
-ghost use Rattle.framer.specs.Framer.{empty_framer, closed, begun, laid_out, filled_meter, filled_bytes, add, passed, take_of, out_of, failed};
+ghost use Rattle.framer.specs.Framer.{empty_framer, closed, begun, laid_out, filled_meter, filled_bytes, add, passed, ready_of, take_of, out_of, failed};
 
+use crate::cause::{Cause, check};
 use crate::meter::Meter;
 use crate::offer::Offer;
 use crate::queue::Queue;
@@ -17,12 +18,11 @@ pub struct Framer {
     pub queue: Queue,
 }
 
-// What a take comes to: the answer, and how long the frame is that was taken.
+// What a take comes to. The answer is how long the frame is that was taken.
 #[derive(Clone, Copy)]
 pub struct Taken {
     pub framer: Framer,
-    pub answer: u8,
-    pub length: usize,
+    pub answer: Result<usize, Cause>,
 }
 
 #[tactic(auto, unfolding(crate::specs::Framer::empty_framer))]
@@ -150,41 +150,39 @@ impl Framer {
         self
     }
 
-    // 13, 12; the oldest waiting frame goes to the front of out, and later bytes of out stay.
+    // 13, 12; how long the oldest waiting frame is.
+    #[tactic(auto, unfolding(crate::specs::Framer::ready_of))]
+    fn ready(self, room: usize) -> Result<usize, Cause>
+        ensures { result ≡ ready_of self room }
+    {
+        let m = self.meter;
+        check(crate::meter::sound(m), Cause::Unsound)?;
+        check(m.waiting != 0, Cause::NothingWaits)?;
+        let q = self.queue;
+        let n = q.length_at(m.first);
+        check(n <= room, Cause::ShortOutput)?;
+        Ok(n)
+    }
+
+    // The oldest waiting frame goes to the front of out, and later bytes of out stay.
     pub fn take(mut self, out: &mut [u8]) -> Taken
         ensures value { result ≡ take_of self (length out.old) }
         ensures out_after { out.new ≡ out_of self out.old }
     {
+        let answer = self.ready(out.len());
+        let Ok(n) = answer else {
+            return Taken {
+                framer: self,
+                answer,
+            };
+        };
         let m = self.meter;
-        if !crate::meter::sound(m) {
-            return Taken {
-                framer: self,
-                answer: 19,
-                length: 0,
-            };
-        }
-        if m.waiting == 0 {
-            return Taken {
-                framer: self,
-                answer: 13,
-                length: 0,
-            };
-        }
         let q = self.queue;
-        let n = q.length_at(m.first);
-        if out.len() < n {
-            return Taken {
-                framer: self,
-                answer: 12,
-                length: 0,
-            };
-        }
         codec::number::put_bytes(out, 0, codec::field::part_at(&q.bytes, m.first * 1024, n));
         self.meter = crate::meter::taken_meter(m);
         Taken {
             framer: self,
-            answer: 0,
-            length: n,
+            answer,
         }
     }
 

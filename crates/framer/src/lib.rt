@@ -1,5 +1,6 @@
 #![tactic(auto)]
 
+pub mod cause;
 pub mod framer;
 pub mod meter;
 pub mod offer;

@@ -4,7 +4,7 @@ ghost use Rattle.codec.specs.Number.{Below};
 ghost use Rattle.framer.specs.Meter.{sound_meter, limits_ok, empty_meter, is_within, ticks_in, back_in, state_shown, item_of, offset_for, back_for, closes_for, slot_of, counted, closed_meter, taken_meter, failed_meter};
 
 use crate::offer::Offer;
-use codec::item::{Item, State};
+use codec::item::Item;
 use codec::time::{Elapsed, Millis, Nanos, Ticks, Time};
 
 #[derive(Clone, Copy)]
@@ -76,11 +76,7 @@ pub(crate) fn empty_meter(size: usize, room: usize, deadline: Millis) -> Meter
 fn is_within(e: Elapsed) -> bool
     ensures { result ≡ is_within e }
 {
-    match e {
-        Elapsed::Ticks(_) => true,
-        Elapsed::TooFar => false,
-        Elapsed::Backwards(_) => false,
-    }
+    matches!(e, Elapsed::Ticks(_))
 }
 
 fn ticks_in(e: Elapsed) -> Ticks
@@ -88,8 +84,7 @@ fn ticks_in(e: Elapsed) -> Ticks
 {
     match e {
         Elapsed::Ticks(t) => t,
-        Elapsed::TooFar => Ticks(0),
-        Elapsed::Backwards(_) => Ticks(0),
+        _ => Ticks(0),
     }
 }
 
@@ -97,24 +92,20 @@ fn back_in(e: Elapsed) -> Nanos
     ensures { result ≡ back_in e }
 {
     match e {
-        Elapsed::Ticks(_) => Nanos(0),
-        Elapsed::TooFar => Nanos(0),
         Elapsed::Backwards(n) => n,
+        _ => Nanos(0),
     }
 }
 
 // The state byte is shown where it is due or something was lost, which sets its bit 7.
 #[tactic(auto, unfolding(crate::specs::Meter::state_shown))]
-fn state_shown(lost: bool, o: Offer) -> State
+fn state_shown(lost: bool, o: Offer) -> Option<u8>
     ensures { result ≡ state_shown lost o }
 {
     if lost {
-        return State::Byte(o.state | 128);
+        return Some(o.state | 128);
     }
-    if o.due {
-        return State::Byte(o.state);
-    }
-    State::Absent
+    o.due.then_some(o.state)
 }
 
 #[tactic(auto, unfolding(crate::specs::Meter::item_of))]

@@ -1,5 +1,5 @@
 -- What each source has to say: the first half of the ledger (rules 4 to 6).
-use Rattle.std.specs.Prelude.{ℕ, ◌+◌, ◌*◌, ◌/◌, ◌%◌, Bool, true, false, not, ◌&&◌, ◌||◌, List, [], ◌∷◌, ◌++◌, map, get_or, set, ltb, eqb}
+use Rattle.std.specs.Prelude.{ℕ, ◌+◌, ◌*◌, ◌/◌, ◌%◌, Bool, true, false, not, ◌&&◌, ◌||◌, List, [], ◌∷◌, ◌++◌, map, get_or, set, ltb, eqb, Option, Some, None}
 use Rattle.codec.specs.Choice.{pick}
 use Rattle.codec.specs.declared.time.Time.{Time}
 use Rattle.codec.specs.declared.ident.Kind.{Kind}
@@ -17,16 +17,15 @@ pub record Event : Type 0 where
   pub state : ℕ
   pub due : Bool
 
--- what the rules say of a source, filters apart. `shown` is the byte last shown, where `told` says that one was; `heard`, that a report
--- was accepted since the last tick
+-- what the rules say of a source, filters apart. `shown` is the byte last shown, if one was; `heard`, that a report was accepted since the last
+-- tick
 pub record Account : Type 0 where
   pub kind : Kind
   pub network : ℕ
   pub started : Bool
   pub state : ℕ
   pub known : Bool
-  pub shown : ℕ
-  pub told : Bool
+  pub shown : Option ℕ
   pub heard : Bool
 
 -- after setup: not started, the byte 0, unknown and unshown (rule 4)
@@ -37,8 +36,7 @@ fresh_account kind network = record {
   started = false;
   state = 0;
   known = false;
-  shown = 0;
-  told = false;
+  shown = None;
   heard = false;
 }
 
@@ -63,8 +61,7 @@ started_account a = record {
   started = true;
   state = 0;
   known = false;
-  shown = 0;
-  told = false;
+  shown = None;
   heard = a.heard;
 }
 
@@ -76,7 +73,6 @@ stopped_account a = record {
   state = a.state;
   known = a.known;
   shown = a.shown;
-  told = a.told;
   heard = a.heard;
 }
 
@@ -89,7 +85,6 @@ updated_account byte a = record {
   state = byte;
   known = true;
   shown = a.shown;
-  told = a.told;
   heard = a.heard;
 }
 
@@ -123,8 +118,12 @@ insists conflict = true
 insists (aggregated bits) = true
 
 -- known, and never shown or different from the last shown (rules 4 and 6)
+abbrev pub is_byte : Option ℕ → ℕ → Bool
+is_byte (Some x) byte = eqb x byte
+is_byte None byte = false
+
 unfoldable pub differs : Bool → ℕ → Account → Bool
-differs known state a = known && not (a.told && eqb a.shown state)
+differs known state a = known && not (is_byte a.shown state)
 
 -- the report shows the state even where no loss is pending (rule 4)
 unfoldable pub shows_by : Bound → Account → Bool
@@ -151,8 +150,7 @@ reported_account b a = record {
   started = a.started;
   state = cleared b (written b a.state);
   known = a.known || informs b;
-  shown = pick (shows_by b a) (written b a.state) a.shown;
-  told = a.told || shows_by b a;
+  shown = pick (shows_by b a) (Some (written b a.state)) a.shown;
   heard = true;
 }
 
@@ -180,8 +178,7 @@ ticked_account a = record {
   started = a.started;
   state = a.state;
   known = a.known;
-  shown = pick (calls_for a) a.state a.shown;
-  told = a.told || calls_for a;
+  shown = pick (calls_for a) (Some a.state) a.shown;
   heard = false;
 }
 

@@ -1,11 +1,10 @@
 -- What any sequence of calls leaves behind (demand 3), read through the reader's definitions.
-use Rattle.std.specs.Prelude.{ℕ, zero, suc, ◌+◌, ◌*◌, ◌%◌, ◌^◌, ◌≤◌, ◌<◌, ◌≡◌, ◌⊎◌, Bool, true, false, List, [], ◌∷◌, ◌++◌, map, reverse, length, eqb}
+use Rattle.std.specs.Prelude.{ℕ, zero, suc, ◌+◌, ◌*◌, ◌%◌, ◌^◌, ◌≤◌, ◌<◌, ◌≡◌, ◌⊎◌, Bool, true, false, List, [], ◌∷◌, ◌++◌, map, reverse, length, eqb, Ok}
 use Rattle.std.proofs.Math.ListN as ListN
 use Rattle.codec.specs.Choice.{pick}
 use Rattle.codec.specs.Number.{Bytes}
 use Rattle.codec.specs.Time.{ns}
 use Rattle.codec.specs.declared.ident.Ident.{Ident}
-use Rattle.reader.specs.declared.frame.Judged.TheVariants as Judged
 use Rattle.reader.specs.Frame.{judge_of, items_of}
 use Rattle.reader.specs.Listing.{Yield, stepping}
 use Rattle.framer.specs.declared.queue.Queue.{Queue}
@@ -99,7 +98,7 @@ pub record Shows (y : Yield) (x : Line) : Type 0 where
 
 -- the reader accepts the bytes; their header and items are the frame's, and stepping yields its lines one by one (a and d)
 pub record Reads (s : List ℕ) (f : Frame) : Type 0 where
-  pub header : judge_of s ≡ Judged.Frame (record { sequence = f.sequence; time = f.time; length = total f.lines })
+  pub header : judge_of s ≡ Ok (record { sequence = f.sequence; time = f.time; length = total f.lines })
   pub items : items_of s 14 ≡ map entry_in f.lines
   pub lines : Both Shows (stepping (length s) s 14) f.lines
 
@@ -131,7 +130,7 @@ pub record History (c : Limits) (book : List Account) (ds : List Deed) (l : Ledg
   -- c: at each moment a frame closes exactly when rule 2 or 6 says, and is discarded exactly when Q wait; none closes empty
   pub closes : (before after : List Op) (op : Op) → ops_on book ds ≡ before ++ (op ∷ after)
       → Closes c (run_l c empty_ledger before) op (step_l c (run_l c empty_ledger before) op)
-  pub discards : (discards_of u).count ≡ discard_count l
+  pub discards : discards_of u ≡ Ok (discard_count l)
   pub filled : All (λ (k : Closed). k.frame.lines ≡ [] → ⊥) l.closed
   -- d: in `Reads`, for each line
   -- e: the lost bit stands exactly on the first item made after a discard or a failed send
@@ -146,7 +145,7 @@ pub record History (c : Limits) (book : List Account) (ds : List Deed) (l : Ledg
   -- answered 0, which is the number of frames marked as failed; there is a mark for each frame taken
   pub fails : (before after : List Deed) (d : Deed) → ds ≡ before ++ (d ∷ after) → d.call ≡ Call.failed
       → d.said.answer ≡ pick (is_out (ledger_of c book before).sends) 0 17
-  pub failures : (failures_of u).count ≡ failure_count l
+  pub failures : failures_of u ≡ Ok (failure_count l)
   pub called : failures_in l.sends ≡ failed_on ds
   pub marked : length l.sends ≡ length (frames_taken ds)
 

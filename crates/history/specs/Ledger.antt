@@ -6,7 +6,7 @@ use Rattle.codec.specs.Time.{ns}
 use Rattle.codec.specs.Item.{item_length}
 use Rattle.codec.specs.Layout.{Entry}
 use Rattle.codec.specs.declared.time.Time.{Time}
-use Rattle.codec.specs.declared.item.State.{State}
+use Rattle.std.specs.Prelude.{Option, Some, None}
 use Rattle.codec.specs.declared.item.Item.{Item}
 use Rattle.history.specs.Account.{Event}
 
@@ -62,8 +62,8 @@ empty_ledger = record {
 }
 
 -- the state is shown where lost is pending, which sets bit 7, or where it is due (rule 4)
-unfoldable pub state_in : Line → State
-state_in x = pick x.lost (State.Byte (x.event.state + 128)) (pick x.event.due (State.Byte x.event.state) State.Absent)
+unfoldable pub state_in : Line → Option ℕ
+state_in x = pick x.lost (Some (x.event.state + 128)) (pick x.event.due (Some x.event.state) None)
 
 -- the item of a line, its payload beside it, and how many bytes it takes
 unfoldable pub item_in : Line → Item

@@ -2,15 +2,15 @@
 -- (rules 3, 4 and 8).
 use Rattle.std.specs.Prelude.{ℕ, ◌+◌, ◌≡◌, Bool, true, false, List, [], ◌∷◌, map, length, leb}
 use Rattle.codec.specs.Choice.{pick}
-use Rattle.codec.specs.declared.item.State.{State}
+use Rattle.std.specs.Prelude.{Option, Some, None}
 use Rattle.history.specs.Meaning.{Meaning, starts, stops, updates, reports, ticks, takes, fails, switches, drops, nothing, meaning}
 use Rattle.history.specs.Ledger.{Closed, Note, made, queued, discarded, unsent, Ledger, item_in, discarded_in, failures_in, lines_in, closed_by, filling_by, made_in, is_discard, is_failure, tally}
 use Rattle.history.specs.Deed.{Deed, done}
 
 -- bit 7 of a shown state
-abbrev pub lost_bit : State → Bool
-lost_bit (State.Byte b) = leb 128 b
-lost_bit State.Absent = false
+abbrev pub lost_bit : Option ℕ → Bool
+lost_bit (Some b) = leb 128 b
+lost_bit None = false
 
 -- note after note: it is set on the first item made after a frame was discarded or called failed, and on no other. b says whether
 -- there was such a loss since the last item, and `pending` says so at the end

@@ -1,9 +1,8 @@
 -- Demand 3, clause d, on a microphone's tape (docs/RULES.md, "Where on the tape").
-use Rattle.std.specs.Prelude.{ℕ, ◌≡◌, List, length, ℤ}
+use Rattle.std.specs.Prelude.{ℕ, ◌≡◌, List, length, ℤ, Ok}
 use Rattle.codec.specs.declared.time.Time.{Time}
 use Rattle.reader.specs.Listing.{Yield, stepping}
 use Rattle.tape.specs.Sample.{apart_of, sample_of, SameOrNext, position_of}
-use Rattle.tape.specs.declared.sample.Placed.{Placed}
 use Rattle.history.specs.Ledger.{Line, Frame}
 use Rattle.history.specs.History.{Both}
 
@@ -11,7 +10,7 @@ use Rattle.history.specs.History.{Both}
 -- where both are answered
 pub record OnTape (start : Time) (y : Yield) (x : Line) : Type 0 where
   pub sample : SameOrNext (sample_of (apart_of start y.time)) (sample_of (apart_of start x.event.time))
-  pub position : (p q : ℤ) → position_of start y.time ≡ Placed.Sample p → position_of start x.event.time ≡ Placed.Sample q → SameOrNext p q
+  pub position : (p q : ℤ) → position_of start y.time ≡ Ok p → position_of start x.event.time ≡ Ok q → SameOrNext p q
 
 -- all items of a frame, as they are read from its bytes
 abbrev pub FrameOnTape : Time → List ℕ → Frame → Type 0

@@ -6,7 +6,7 @@ use mathlib.Core.List.{List, [], ◌∷◌}
 use native.Mathlib.Omega.{arith}
 use lib.ListN.{length, get_or}
 use lib.Dec.{leb, eqb}
-use borrow.Author.Tests.{eqb-true, le-leb}
+use borrow.Author.Tests.{le-leb}
 use Rattle.codec.specs.Choice.{pick}
 use Rattle.codec.specs.Time.{time_ok}
 use Rattle.codec.specs.declared.time.Time.{Time}
@@ -18,23 +18,25 @@ use Rattle.framer.specs.Framer.{empty_framer, add, passed, take_of, failed}
 use Rattle.framer.specs.declared.framer.Framer.{Framer}
 use Rattle.framer.proofs.FramerLaws.{sounds}
 use Rattle.framer.proofs.KeptLaws.{kept_empty, kept_add, kept_pass, kept_take, kept_failed}
-use Rattle.bus.specs.Source.{tick_due, state_offer, add_cause}
+use Rattle.bus.specs.Source.{tick_due, state_offer}
 use Rattle.bus.specs.Report.{report_cause, offer_of, settled}
 use Rattle.bus.specs.declared.source.Source.{Source}
 use Rattle.bus.specs.declared.report.Report.{Report}
 use Rattle.bus.specs.declared.update.Update.{Update}
 use Rattle.bus.specs.declared.filter.Addition.{Addition}
 use Rattle.bus.proofs.BusLaws.{cause_passed}
-use Rattle.mirror.specs.Engine.{fresh_engine, sound_of, cause_of, answered, timed, source_at, with_source, no_source}
-use Rattle.mirror.specs.Setup.{sources_ok, setup_of, reset_of, switch_of, offline_of}
+use Rattle.std.specs.Prelude.{Result, Ok, Err}
+use Rattle.framer.specs.declared.cause.Cause.{Cause}
+use Rattle.framer.proofs.FramerLaws.{passed-guard}
+use Rattle.mirror.specs.Engine.{fresh_engine, sound_of, cause_of, answered, source_at, with_source, no_source}
+use Rattle.mirror.specs.Setup.{sources_ok, setup_cause, setup_of, reset_of, switch_cause, switch_of, offline_of}
 use Rattle.mirror.specs.Source.{start_of, stop_of, update_of, add_of, remove_of}
 use Rattle.mirror.specs.Report.{reported, report_of}
-use Rattle.mirror.specs.Tick.{tick_source, states_of, ticked, tick_of}
+use Rattle.mirror.specs.Tick.{tick_source, states_of, ticked, tick_cause, tick_of}
 use Rattle.mirror.specs.Take.{taken_of}
-use Rattle.mirror.specs.Failed.{failed_of}
+use Rattle.mirror.specs.Failed.{failed_cause, failed_of}
 use Rattle.mirror.specs.Call.{Call, step_of, run_of}
 use Rattle.mirror.specs.declared.engine.Engine.{Engine}
-use Rattle.mirror.specs.declared.engine.Outcome.{Outcome}
 use Rattle.mirror.proofs.MirrorLaws.{few, few_pairs}
 
 -- the engine before setup
@@ -53,13 +55,14 @@ unfolding sound_of
 metered e s = and_r (leb e.count 8) (sound_meter e.framer.meter) s
 
 -- a refused call keeps everything, so only what an accepted one leaves is asked for
-answered_sound : (e after : Engine) (cause : ℕ) → sound_of e ≡ true → (cause ≡ 0 → sound_of after ≡ true) → sound_of (answered e (cause_of e cause) after).engine ≡ true
-unfolding answered cause_of
-answered_sound e after cause s k = rw s (go (eqb cause 0) refl)
+answered_sound : {A : Type 0} (e after : Engine) (x : A) (r : Result Unit Cause) → sound_of e ≡ true → (r ≡ Ok tt → sound_of after ≡ true)
+    → sound_of (answered e (cause_of e r) x after).engine ≡ true
+unfolding cause_of
+answered_sound {A} e after x r s k = rw s (go r refl)
   where
-    go : (b : Bool) → eqb cause 0 ≡ b → sound_of (pick {A = Outcome} (eqb cause 0) (record { engine = after; answer = 0 }) (record { engine = e; answer = cause })).engine ≡ true
-    go true e0 = rw e0 (k (eqb-true cause 0 e0))
-    go false e0 = rw e0 s
+    go : (q : Result Unit Cause) → r ≡ q → sound_of (answered e q x after).engine ≡ true
+    go (Ok u) g = k g
+    go (Err c) g = s
 
 -- one source changed
 with_sound : (e : Engine) (source : ℕ) (s : Source) (w : Framer) → sound_of e ≡ true → sound_meter w.meter ≡ true → sound_of (with_source e source s w) ≡ true
@@ -68,7 +71,7 @@ with_sound e source s w h g = sound_by e.count _ w (few e h) g
 
 -- reports: an accepted item fits an empty frame
 reported_sound : (e : Engine) (r : Report) (payload : List ℕ) → sound_of e ≡ true
-    → report_cause e.count e.framer.meter.size (source_at e r.source) r (length payload) ≡ 0 → sound_of (reported e r payload) ≡ true
+    → report_cause e.count e.framer.meter.size (source_at e r.source) r (length payload) ≡ Ok tt → sound_of (reported e r payload) ≡ true
 unfolding reported offer_of
 reported_sound e r payload s c =
     let p = cause_passed e.count e.framer.meter.size (source_at e r.source) r (length payload) c in
@@ -76,33 +79,29 @@ reported_sound e r payload s c =
     (kept_add e.framer r.time (offer_of (source_at e r.source) r) payload (metered e s) p.time (omega (arith, p.fits)))
 
 report_sound : (e : Engine) (r : Report) (payload : List ℕ) → sound_of e ≡ true → sound_of (report_of e r payload).engine ≡ true
-unfolding report_of timed
-report_sound e r payload s = answered_sound e (reported e r payload) _ s (reported_sound e r payload s)
+unfolding report_of
+report_sound e r payload s = answered_sound e (reported e r payload) _ _ s (reported_sound e r payload s)
 
 -- state updates, filters, starting and stopping leave the framer as it is
 update_sound : (e : Engine) (u : Update) → sound_of e ≡ true → sound_of (update_of e u).engine ≡ true
 unfolding update_of
-update_sound e u s = answered_sound e _ _ s (λ z. with_sound e _ _ e.framer s (metered e s))
+update_sound e u s = answered_sound e _ _ _ s (λ z. with_sound e _ _ e.framer s (metered e s))
 
 start_sound : (e : Engine) (source : ℕ) → sound_of e ≡ true → sound_of (start_of e source).engine ≡ true
 unfolding start_of
-start_sound e source s = answered_sound e _ _ s (λ z. with_sound e _ _ e.framer s (metered e s))
+start_sound e source s = answered_sound e _ _ _ s (λ z. with_sound e _ _ e.framer s (metered e s))
 
 stop_sound : (e : Engine) (source : ℕ) → sound_of e ≡ true → sound_of (stop_of e source).engine ≡ true
 unfolding stop_of
-stop_sound e source s = answered_sound e _ _ s (λ z. with_sound e _ _ e.framer s (metered e s))
+stop_sound e source s = answered_sound e _ _ _ s (λ z. with_sound e _ _ e.framer s (metered e s))
 
 remove_sound : (e : Engine) (source number : ℕ) → sound_of e ≡ true → sound_of (remove_of e source number).engine ≡ true
 unfolding remove_of
-remove_sound e source number s = answered_sound e _ _ s (λ z. with_sound e _ _ e.framer s (metered e s))
+remove_sound e source number s = answered_sound e _ _ _ s (λ z. with_sound e _ _ e.framer s (metered e s))
 
 add_sound : (e : Engine) (a : Addition) → sound_of e ≡ true → sound_of (add_of e a).engine ≡ true
 unfolding add_of
-add_sound e a s = go (eqb (cause_of e (add_cause e.count (source_at e a.source) a)) 0) refl
-  where
-    go : (b : Bool) → eqb (cause_of e (add_cause e.count (source_at e a.source) a)) 0 ≡ b → sound_of (add_of e a).engine ≡ true
-    go true q = rw q (with_sound e _ _ e.framer s (metered e s))
-    go false q = rw q s
+add_sound e a s = answered_sound e _ _ _ s (λ z. with_sound e _ _ e.framer s (metered e s))
 
 -- a tick: a state-only item has 5 bytes
 shown_sound : (e : Engine) (t : Time) (s : Source) → sound_of e ≡ true → time_ok t ≡ true → sound_meter (add e.framer t (state_offer s) []).meter ≡ true
@@ -128,13 +127,9 @@ ticked_sound e t h g =
     let s : sound_of x ≡ true = states_sound e.count 0 e t h g in
     sound_by x.count x.sources (passed x.framer t) (few x s) (kept_pass x.framer t (metered x s))
 
-in_time : (b : Bool) → pick {A = ℕ} (not b) 7 0 ≡ 0 → b ≡ true
-in_time true e = refl
-in_time false e = let z : ⊥ = omega arith in absurd z
-
 tick_sound : (e : Engine) (t : Time) → sound_of e ≡ true → sound_of (tick_of e t).engine ≡ true
-unfolding tick_of timed
-tick_sound e t s = answered_sound e (ticked e t) _ s (λ z. ticked_sound e t s (in_time (time_ok t) z))
+unfolding tick_of tick_cause
+tick_sound e t s = answered_sound e (ticked e t) _ _ s (λ z. ticked_sound e t s (passed-guard (time_ok t) Cause.BadTime (Ok tt) tt z).0)
 
 -- taking
 take_sound : (e : Engine) (n : ℕ) → sound_of e ≡ true → sound_of (taken_of e n).engine ≡ true
@@ -143,18 +138,14 @@ take_sound e n s = rw s (sound_by e.count e.sources (take_of e.framer n).framer 
 
 -- a failed send
 failed_sound : (e : Engine) → sound_of e ≡ true → sound_of (failed_of e).engine ≡ true
-unfolding failed_of
-failed_sound e s = answered_sound e _ _ s (λ z. sound_by e.count e.sources (failed e.framer) (few e s) (kept_failed e.framer (metered e s)))
+unfolding failed_of failed_cause
+failed_sound e s = answered_sound e _ _ _ s (λ z. sound_by e.count e.sources (failed e.framer) (few e s) (kept_failed e.framer (metered e s)))
 
 -- setup, switch and offline
-accepted : (b : Bool) → pick {A = ℕ} b 0 14 ≡ 0 → b ≡ true
-accepted true e = refl
-accepted false e = let z : ⊥ = omega arith in absurd z
-
 setup_sound : (e : Engine) (size room deadline : ℕ) (pairs : List ℕ) → sound_of e ≡ true → sound_of (setup_of e size room deadline pairs).engine ≡ true
-unfolding setup_of empty_framer
-setup_sound e size room deadline pairs s = answered_sound e _ _ s (λ z.
-    let f = accepted (eqb e.count 0 && limits_ok size room deadline && sources_ok pairs) z in
+unfolding setup_of setup_cause empty_framer
+setup_sound e size room deadline pairs s = answered_sound e _ _ _ s (λ z.
+    let f = (passed-guard (eqb e.count 0 && limits_ok size room deadline && sources_ok pairs) Cause.BadSetup (Ok tt) tt z).0 in
     let g : limits_ok size room deadline ≡ true = and_r (eqb e.count 0) (limits_ok size room deadline) (and_l (eqb e.count 0 && limits_ok size room deadline) (sources_ok pairs) f) in
     let p = few_pairs pairs (and_r (eqb e.count 0 && limits_ok size room deadline) (sources_ok pairs) f) in
     sound_by (length pairs / 2) _ (empty_framer size room (record { 0 = deadline })) (omega arith) (kept_empty size room (record { 0 = deadline }) g))
@@ -164,9 +155,9 @@ unfolding reset_of empty_framer
 reset_sound e size room deadline s g = sound_by e.count _ (empty_framer size room deadline) (few e s) (kept_empty size room deadline g)
 
 switch_sound : (e : Engine) (size room deadline : ℕ) → sound_of e ≡ true → sound_of (switch_of e size room deadline).engine ≡ true
-unfolding switch_of
-switch_sound e size room deadline s = answered_sound e _ _ s (λ z.
-    let f = accepted (not (eqb e.count 0) && limits_ok size room deadline) z in
+unfolding switch_of switch_cause
+switch_sound e size room deadline s = answered_sound e _ _ _ s (λ z.
+    let f = (passed-guard (not (eqb e.count 0) && limits_ok size room deadline) Cause.BadSetup (Ok tt) tt z).0 in
     reset_sound e size room (record { 0 = deadline }) s (and_r (not (eqb e.count 0)) (limits_ok size room deadline) f))
 
 same_limits : (m : Meter) → sound_meter m ≡ true → limits_ok m.size m.room m.deadline.0 ≡ true
@@ -177,7 +168,7 @@ same_limits m e =
 
 offline_sound : (e : Engine) → sound_of e ≡ true → sound_of (offline_of e).engine ≡ true
 unfolding offline_of
-offline_sound e s = answered_sound e _ 0 s (λ z. go (eqb e.count 0))
+offline_sound e s = answered_sound e _ _ _ s (λ z. go (eqb e.count 0))
   where
     go : (b : Bool) → sound_of (pick b e (reset_of e e.framer.meter.size e.framer.meter.room e.framer.meter.deadline)) ≡ true
     go true = s

@@ -1,70 +1,52 @@
 -- Laws of the engine's definitions, over plain variables: each is one `returns` of the code.
-use Prim.Native.Nat.{ℕ, suc, ◌+◌, ◌-◌, ◌/◌, ◌≤◌, ◌<◌}
-use mathlib.Core.Path.{◌≡◌, refl, ap, ◌∙◌}
-use mathlib.Core.Bool.{Bool, true, false, not, ◌&&◌}
-use mathlib.Core.List.{List, [], ◌∷◌, ◌++◌, map, map-append, append_assoc, append-nil}
+use Prim.Native.Nat.{ℕ, suc, ◌+◌, ◌-◌, ◌≤◌, ◌<◌}
+use mathlib.Core.Path.{◌≡◌, ◌∙◌}
+use mathlib.Core.Bool.{true, false, not, ◌&&◌, true≢false, false≢true}
+use mathlib.Core.List.{List, [], ◌∷◌, map}
 use native.Mathlib.Omega.{arith}
 use native.Mathlib.Numerals.{add-one}
-use lib.ListN.{length, get_or, set, take, drop, length-map, drop_of_length-le}
-use lib.Seq.{drop-cons, take-suc, set_at, length-take-le, take_all}
+use lib.ListN.{length, get_or, set, take, drop}
+use lib.Seq.{take_all}
 use lib.Dec.{leb, eqb}
-use borrow.Author.Tests.{eq-eqb, ne_eqb, lt-leb, le-leb, eqb-true, eqb-false, leb-true}
-use Rattle.codec.proofs.BoolLaws.{and_l}
+use borrow.Author.Tests.{leb-true}
+use Rattle.std.specs.Prelude.{Result, Ok, Err, is_ok}
+use Rattle.codec.proofs.BoolLaws.{and_l, and_r}
+use Rattle.framer.specs.Cause.{guard, gives}
+use Rattle.framer.specs.declared.cause.Cause.{Cause}
+use Rattle.framer.proofs.FramerLaws.{passed-guard}
 use Rattle.framer.proofs.KeptLaws.{limits}
 use Rattle.codec.specs.declared.time.Time.{Time}
 use Rattle.codec.specs.declared.time.Millis.{Millis}
-use Rattle.codec.specs.declared.time.Nanos.{Nanos}
 use Rattle.framer.specs.Meter.{limits_ok, sound_meter}
-use Rattle.framer.specs.Framer.{empty_framer, add, passed, failed}
+use Rattle.framer.specs.Framer.{empty_framer, add, passed}
 use Rattle.framer.specs.declared.framer.Framer.{Framer}
 use Rattle.framer.specs.declared.offer.Offer.{Offer}
 use Rattle.bus.specs.Source.{free_at, add_cause, added_filter, tick_due, state_offer, calmed, reset_source}
-use Rattle.bus.specs.Report.{offer_of, settled}
+use Rattle.bus.specs.Report.{report_cause, offer_of, settled}
 use Rattle.bus.specs.declared.source.Source.{Source}
 use Rattle.bus.specs.declared.filter.Addition.{Addition}
 use Rattle.bus.specs.declared.report.Report.{Report}
-use Rattle.mirror.specs.Engine.{sound_of, cause_of, answered, timed, index_of, no_source, no_sources, source_at, with_source}
-use Rattle.mirror.specs.Setup.{source_numbered, pair_ok, named_again, pairs_ok, sources_ok, named, setup_of, reset_of, switch_of, offline_of}
+use Rattle.mirror.specs.Engine.{sound_of, cause_of, answered, index_of, no_source, source_at, with_source}
+use Rattle.mirror.specs.Setup.{source_numbered, pairs_ok, sources_ok, named, setup_cause, reset_of, switch_cause}
 use Rattle.mirror.specs.Source.{stored_of, add_of}
 use Rattle.mirror.specs.Report.{reported}
 use Rattle.mirror.specs.Tick.{tick_source, states_of, ticked}
-use Rattle.mirror.specs.Failed.{failed_of}
 use Rattle.mirror.specs.declared.engine.Engine.{Engine}
 use Rattle.mirror.specs.declared.engine.Outcome.{Outcome}
 
--- 19 before all; another cause; done
-pub unsound : (e : Engine) (cause : ℕ) (after : Engine) → sound_of e ≡ false → record { engine = e; answer = 19 } ≡ answered e (cause_of e cause) after
-unfolding cause_of answered
-unsound e cause after s = rw s
+-- refused and done
+pub refused : {A : Type 0} (e : Engine) (r cause : Result Unit Cause) (c : Cause) (x : A) (after : Engine) → r ≡ cause → r ≡ Err c
+    → record { engine = e; answer = Err c } ≡ answered e cause x after
+refused e r cause c x after g n = rw (← g, n)
 
-pub refused : (e : Engine) (cause c : ℕ) (after : Engine) → sound_of e ≡ true → c ≡ cause → (c ≡ 0 → ⊥)
-    → record { engine = e; answer = c } ≡ answered e (cause_of e cause) after
-unfolding cause_of answered
-refused e cause c after s g n = rw (s, ← g, ne_eqb c 0 n)
+pub done : {A : Type 0} (e : Engine) (r cause : Result Unit Cause) (u : Unit) (x y : A) (after z : Engine) → r ≡ cause → r ≡ Ok u → y ≡ x → z ≡ after
+    → record { engine = z; answer = Ok y } ≡ answered e cause x after
+done e r cause u x y after z g n ey ez = rw (← g, n, ey, ez)
 
-pub done : (e : Engine) (cause : ℕ) (after x : Engine) → sound_of e ≡ true → cause ≡ 0 → x ≡ after
-    → record { engine = x; answer = 0 } ≡ answered e (cause_of e cause) after
-unfolding cause_of answered
-done e cause after x s g n = rw (s, g, n)
-
--- the same beside what a report or a tick tells of the clock
-untold : (e : Engine) (o : Outcome) (c : ℕ) (back : Nanos) → record { engine = e; answer = c } ≡ o → (c ≡ 0 → ⊥)
-    → record { engine = e; answer = c; back = record { 0 = 0 } } ≡ timed o back
-unfolding timed
-untold e o c back q n = rw (← q) (rw (ne_eqb c 0 n))
-
-pub timed_unsound : (e : Engine) (cause : ℕ) (after : Engine) (back : Nanos) → sound_of e ≡ false
-    → record { engine = e; answer = 19; back = record { 0 = 0 } } ≡ timed (answered e (cause_of e cause) after) back
-timed_unsound e cause after back s = untold e _ 19 back (unsound e cause after s) (λ z. omega arith)
-
-pub timed-refused : (e : Engine) (cause c : ℕ) (after : Engine) (back : Nanos) → sound_of e ≡ true → c ≡ cause → (c ≡ 0 → ⊥)
-    → record { engine = e; answer = c; back = record { 0 = 0 } } ≡ timed (answered e (cause_of e cause) after) back
-timed-refused e cause c after back s g n = untold e _ c back (refused e cause c after s g n) n
-
-pub timed-done : (e : Engine) (cause : ℕ) (after x : Engine) (back b : Nanos) → sound_of e ≡ true → cause ≡ 0 → x ≡ after → b ≡ back
-    → record { engine = x; answer = 0; back = b } ≡ timed (answered e (cause_of e cause) after) back
-unfolding timed
-timed-done e cause after x back b s g n z = rw (← done e cause after x s g n, z)
+-- a sound engine
+pub sounded : {A : Type 0} (e : Engine) (rest : Result A Cause) (x : A) → cause_of e rest ≡ Ok x → (sound_of e ≡ true) × (rest ≡ Ok x)
+unfolding cause_of
+sounded e rest x g = passed-guard (sound_of e) Cause.Unsound rest x g
 
 -- reports
 pub reported_by : (e : Engine) (r : Report) (payload : List ℕ) (k : ℕ) (s x : Source) (o : Offer) (w : Framer) → k ≡ index_of r.source
@@ -77,23 +59,26 @@ pub source_is : (e : Engine) (source k : ℕ) → k ≡ index_of source → get_
 unfolding source_at
 source_is e source k ek = rw ek
 
+pub report_judged : (e : Engine) (r : Report) (n k : ℕ) (c : Result Unit Cause) → k ≡ index_of r.source
+    → c ≡ cause_of e (report_cause e.count e.framer.meter.size (get_or e.sources k no_source) r n)
+    → c ≡ cause_of e (report_cause e.count e.framer.meter.size (source_at e r.source) r n)
+report_judged e r n k c ek ec = ec ∙ rw (source_is e r.source k ek)
+
 -- one source changed
-pub stored_by : (f : Source → Source) (e : Engine) (source k cause c : ℕ) (s x : Source) (o : Outcome) → k ≡ index_of source
+pub stored_by : (f : Source → Source) (e : Engine) (source k : ℕ) (cause c : Result Unit Cause) (s x : Source) (o : Outcome Unit) → k ≡ index_of source
     → s ≡ get_or e.sources k no_source → x ≡ f s → c ≡ cause → o ≡ stored_of e k x c
-    → o ≡ answered e cause (with_source e source (f (source_at e source)) e.framer)
+    → o ≡ answered e cause tt (with_source e source (f (source_at e source)) e.framer)
 unfolding stored_of with_source source_at
 stored_by f e source k cause c s x o ek es ex ec eo = eo ∙ rw (← ek, ← es, ← ex, ← ec)
 
-pub add-refused : (e : Engine) (a : Addition) (k c : ℕ) (s : Source) → k ≡ index_of a.source → s ≡ get_or e.sources k no_source
-    → c ≡ cause_of e (add_cause e.count s a) → (c ≡ 0 → ⊥) → record { engine = e; answer = c; number = 0 } ≡ add_of e a
-unfolding add_of source_at
-add-refused e a k c s ek es ec n = rw (← ek, ← es, ← ec, ne_eqb c 0 n)
-
-pub add_done : (e : Engine) (a : Addition) (k c n : ℕ) (s x : Source) → k ≡ index_of a.source → s ≡ get_or e.sources k no_source
-    → c ≡ cause_of e (add_cause e.count s a) → c ≡ 0 → x ≡ added_filter s a.filter → n ≡ free_at s.places
-    → record { engine = record { count = e.count; sources = set e.sources k x; framer = e.framer }; answer = 0; number = n } ≡ add_of e a
+pub add_by : (e : Engine) (a : Addition) (k : ℕ) (r : Result ℕ Cause) (s : Source) → k ≡ index_of a.source → s ≡ get_or e.sources k no_source
+    → r ≡ gives (cause_of e (add_cause e.count s a)) (free_at s.places) → (q : Result Unit Cause) → cause_of e (add_cause e.count s a) ≡ q
+    → (x : Source) → x ≡ added_filter s a.filter
+    → (is_ok r ≡ true → record { engine = record { count = e.count; sources = set e.sources k x; framer = e.framer }; answer = r } ≡ add_of e a)
+    × (is_ok r ≡ false → record { engine = e; answer = r } ≡ add_of e a)
 unfolding add_of source_at with_source
-add_done e a k c n s x ek es ec z ex en = rw (← ek, ← es, ← ec, eq-eqb c 0 z, ← ex, ← en)
+add_by e a k r s ek es er (Ok u) g x ex = (λ z. rw (er, ← ek, ← es, g, ← ex), λ z. absurd (true≢false (rw (er, g) at z)))
+add_by e a k r s ek es er (Err c) g x ex = (λ z. absurd (false≢true (rw (er, g) at z)), λ z. rw (er, ← ek, ← es, g))
 
 -- a tick, source by source
 pub states_step : (n k : ℕ) (e x : Engine) (t : Time) → k < n → x ≡ tick_source e k t → states_of (n - k) k e t ≡ states_of (n - (k + 1)) (k + 1) x t
@@ -122,97 +107,21 @@ pub ticked_by : (e x : Engine) (t : Time) (w : Framer) → x ≡ states_of e.cou
 unfolding ticked
 ticked_by e x t w ex ew = rw (← ex, ← ew)
 
--- pairs of kind and id, two by two
-two : (l : List ℕ) (i : ℕ) → i + 1 < length l → drop i l ≡ get_or l i 0 ∷ (get_or l (i + 1) 0 ∷ drop (i + 2) l)
-two l i h =
-    let a : suc i ≡ i + 1 = omega arith in
-    let b : suc (i + 1) ≡ i + 2 = omega arith in
-    drop-cons l i 0 (omega arith) ∙ ap (λ (r : List ℕ). get_or l i 0 ∷ r) (rw a (drop-cons l (i + 1) 0 h ∙ rw b))
+-- the pairs that are left behind the first
+pub named_next : (l : List ℕ) (k : ℕ) (sources : List Source) (x : Source) → 2 ≤ length l → x ≡ source_numbered (get_or l 0 0) (get_or l 1 0)
+    → named k l sources ≡ named (k + 1) (take (length l - 2) (drop 2 l)) (set sources k x)
+named_next [] k sources x h e = let z : ⊥ = omega arith in absurd z
+named_next (a ∷ []) k sources x h e = let z : ⊥ = omega arith in absurd z
+named_next (a ∷ (b ∷ l)) k sources x h e =
+    let n : length (a ∷ (b ∷ l)) - 2 ≡ length l = omega arith in
+    rw (n, take_all (length l) l (omega arith), add-one k, e)
 
-pub again_hit : (kind id : ℕ) (l : List ℕ) (i : ℕ) → i + 1 < length l → (eqb (get_or l i 0) kind && eqb (get_or l (i + 1) 0) id) ≡ true → named_again kind id (drop i l) ≡ true
-again_hit kind id l i h e = rw (two l i h, e)
-
-pub again_miss : (kind id : ℕ) (l : List ℕ) (i : ℕ) → i + 1 < length l → (eqb (get_or l i 0) kind && eqb (get_or l (i + 1) 0) id) ≡ false
-    → named_again kind id (drop i l) ≡ named_again kind id (drop (i + 2) l)
-again_miss kind id l i h e = rw (two l i h, e)
-
--- what is left of an odd list is one number, else nothing
-data Left (l : List ℕ) (i : ℕ) : Type 0 where
-  none : drop i l ≡ [] → i ≡ length l → Left l i
-  one : (x : ℕ) → drop i l ≡ x ∷ [] → i + 1 ≡ length l → Left l i
-
-left : (l : List ℕ) (i : ℕ) → i ≤ length l → length l ≤ i + 1 → Left l i
-left l i h g = go (eqb i (length l)) refl
-  where
-    go : (b : Bool) → eqb i (length l) ≡ b → Left l i
-    go true e = let q : i ≡ length l = eqb-true i (length l) e in none (drop_of_length-le l {i = i} (omega arith)) q
-    go false e =
-        let n = eqb-false i (length l) e in
-        let q : i < length l = omega (arith, n) in
-        let a : suc i ≡ i + 1 = omega arith in
-        one (get_or l i 0) (drop-cons l i 0 q ∙ ap (λ (r : List ℕ). get_or l i 0 ∷ r) (drop_of_length-le l {i = suc i} (omega arith))) (omega arith)
-
-pub again_end : (kind id : ℕ) (l : List ℕ) (i : ℕ) → i ≤ length l → length l ≤ i + 1 → named_again kind id (drop i l) ≡ false
-again_end kind id l i h g = go (left l i h g)
-  where
-    go : Left l i → named_again kind id (drop i l) ≡ false
-    go (none e q) = rw e
-    go (one x e q) = rw e
-
-pub pairs-bad : (l : List ℕ) (i : ℕ) → i + 1 < length l → pair_ok (get_or l i 0) (get_or l (i + 1) 0) ≡ false → pairs_ok (drop i l) ≡ false
-pairs-bad l i h e = rw (two l i h, e)
-
-pub pairs-again : (l : List ℕ) (i : ℕ) → i + 1 < length l → pair_ok (get_or l i 0) (get_or l (i + 1) 0) ≡ true
-    → named_again (get_or l i 0) (get_or l (i + 1) 0) (drop (i + 2) l) ≡ true → pairs_ok (drop i l) ≡ false
-pairs-again l i h e g = rw (two l i h, e, g)
-
-pub pairs_next : (l : List ℕ) (i : ℕ) → i + 1 < length l → pair_ok (get_or l i 0) (get_or l (i + 1) 0) ≡ true
-    → named_again (get_or l i 0) (get_or l (i + 1) 0) (drop (i + 2) l) ≡ false → pairs_ok (drop i l) ≡ pairs_ok (drop (i + 2) l)
-pairs_next l i h e g = rw (two l i h, e, g)
-
-pub pairs_end : (l : List ℕ) (i : ℕ) → i ≤ length l → length l ≤ i + 1 → eqb i (length l) ≡ pairs_ok (drop i l)
-pairs_end l i h g = go (left l i h g)
-  where
-    go : Left l i → eqb i (length l) ≡ pairs_ok (drop i l)
-    go (none e q) = rw e (eq-eqb i (length l) q)
-    go (one x e q) = rw e (ne_eqb i (length l) (λ z. let y : ⊥ = omega arith in y))
-
-pub named_next : (l : List ℕ) (i k : ℕ) (sources : List Source) (x : Source) → i + 1 < length l → x ≡ source_numbered (get_or l i 0) (get_or l (i + 1) 0)
-    → named k (drop i l) sources ≡ named (k + 1) (drop (i + 2) l) (set sources k x)
-named_next l i k sources x h e = rw (two l i h, e, add-one k)
-
-pub named_end : (l : List ℕ) (i k : ℕ) (sources : List Source) → i ≤ length l → length l ≤ i + 1 → named k (drop i l) sources ≡ sources
-named_end l i k sources h g = go (left l i h g)
-  where
-    go : Left l i → named k (drop i l) sources ≡ sources
-    go (none e q) = rw e
-    go (one x e q) = rw e
-
-pub sources_long : (l : List ℕ) → 16 < length l → false ≡ sources_ok l
-unfolding sources_ok
-sources_long l h = rw (lt-leb (length l) 16 h)
-
-pub sources_few : (l : List ℕ) → length l ≤ 16 → length l < 2 → false ≡ sources_ok l
-unfolding sources_ok
-sources_few l h g = rw (le-leb (length l) 16 h, lt-leb 2 (length l) g)
-
-pub sources_by : (l : List ℕ) (b : Bool) → length l ≤ 16 → 2 ≤ length l → b ≡ pairs_ok l → b ≡ sources_ok l
-unfolding sources_ok
-sources_by l b h g e = rw (le-leb (length l) 16 h, le-leb 2 (length l) g, ← e)
-
--- a list whose first k are mapped
-pub map_step : (f : Source → Source) (l m : List Source) (k : ℕ) (d x : Source) → length l ≡ 8 → k < 8 → x ≡ f (get_or l k d) → m ≡ map f (take k l) ++ drop k l
-    → set m k x ≡ map f (take (k + 1) l) ++ drop (k + 1) l
-map_step f l m k d x g j ex em =
-    let h : k < length l = omega arith in
-    let p : length (map f (take k l)) ≡ k = length-map (take k l) f ∙ length-take-le k l (omega arith) in
-    rw (em, ex, add-one k, take-suc l k d h, map-append f (take k l) (get_or l k d ∷ []), drop-cons l k d h)
-    (set_at (map f (take k l)) (get_or l k d) (drop (suc k) l) (f (get_or l k d)) k p ∙ rw append_assoc)
-
-pub map_end : (f : Source → Source) (l m : List Source) (k : ℕ) → length l ≡ 8 → 8 ≤ k → m ≡ map f (take k l) ++ drop k l → m ≡ map f l
-map_end f l m k g j em =
-    let h : length l ≤ k = omega arith in
-    em ∙ rw (drop_of_length-le l h, take_all k l h) (append-nil (map f l))
+pub left_length : (l : List ℕ) → 2 ≤ length l → length (take (length l - 2) (drop 2 l)) ≡ length l - 2
+left_length [] h = let z : ⊥ = omega arith in absurd z
+left_length (a ∷ []) h = let z : ⊥ = omega arith in absurd z
+left_length (a ∷ (b ∷ l)) h =
+    let n : length (a ∷ (b ∷ l)) - 2 ≡ length l = omega arith in
+    rw (n, take_all (length l) l (omega arith))
 
 -- what the soundness rule and an accepted setup give
 pub few : (e : Engine) → sound_of e ≡ true → e.count ≤ 8
@@ -227,49 +136,25 @@ pub short : (size room deadline : ℕ) → limits_ok size room deadline ≡ true
 short size room deadline e = omega (arith, (limits size room deadline e).4)
 
 -- setup
-pub setup_refused : (e : Engine) (size room deadline : ℕ) (pairs : List ℕ) (a b : Bool) → sound_of e ≡ true → a ≡ limits_ok size room deadline → b ≡ sources_ok pairs
-    → (eqb e.count 0 && a && b) ≡ false → record { engine = e; answer = 14 } ≡ setup_of e size room deadline pairs
-unfolding setup_of
-setup_refused e size room deadline pairs a b s ea eb g = refused e _ 14 _ s (rw (← ea, ← eb, g)) (λ z. omega arith)
+pub set-up : (e : Engine) (size room deadline : ℕ) (pairs : List ℕ) (u : Unit) → setup_cause e size room deadline pairs ≡ Ok u
+    → (eqb e.count 0 ≡ true) × (limits_ok size room deadline ≡ true) × (sources_ok pairs ≡ true)
+unfolding setup_cause
+set-up e size room deadline pairs u g =
+    let s = sounded e (guard (eqb e.count 0 && limits_ok size room deadline && sources_ok pairs) Cause.BadSetup (Ok tt)) u g in
+    let f = (passed-guard (eqb e.count 0 && limits_ok size room deadline && sources_ok pairs) Cause.BadSetup (Ok tt) u s.1).0 in
+    let h = and_l (eqb e.count 0 && limits_ok size room deadline) (sources_ok pairs) f in
+    (and_l (eqb e.count 0) (limits_ok size room deadline) h, and_r (eqb e.count 0) (limits_ok size room deadline) h,
+        and_r (eqb e.count 0 && limits_ok size room deadline) (sources_ok pairs) f)
 
-pub setup_done : (e : Engine) (size room deadline : ℕ) (pairs : List ℕ) (a b : Bool) (sources before : List Source) (w : Framer) → sound_of e ≡ true
-    → a ≡ limits_ok size room deadline → b ≡ sources_ok pairs → (eqb e.count 0 && a && b) ≡ true → before ≡ no_sources → sources ≡ named 0 pairs before
-    → w ≡ empty_framer size room (record { 0 = deadline })
-    → record { engine = record { count = length pairs / 2; sources = sources; framer = w }; answer = 0 } ≡ setup_of e size room deadline pairs
-unfolding setup_of
-setup_done e size room deadline pairs a b sources before w s ea eb g en es ew = done e _ _ _ s (rw (← ea, ← eb, g)) (rw (es, en, ew))
+pub switched : (e : Engine) (size room deadline : ℕ) (u : Unit) → switch_cause e size room deadline ≡ Ok u → limits_ok size room deadline ≡ true
+unfolding switch_cause
+switched e size room deadline u g =
+    let s = sounded e (guard (not (eqb e.count 0) && limits_ok size room deadline) Cause.BadSetup (Ok tt)) u g in
+    and_r (not (eqb e.count 0)) (limits_ok size room deadline)
+    (passed-guard (not (eqb e.count 0) && limits_ok size room deadline) Cause.BadSetup (Ok tt) u s.1).0
 
 -- switch and offline
 pub reset_by : (e : Engine) (size room : ℕ) (deadline : Millis) (sources : List Source) (w : Framer) → sources ≡ map reset_source e.sources
     → w ≡ empty_framer size room deadline → record { count = e.count; sources = sources; framer = w } ≡ reset_of e size room deadline
 unfolding reset_of
 reset_by e size room deadline sources w es ew = rw (es, ew)
-
-pub switch_refused : (e : Engine) (size room deadline : ℕ) (a : Bool) → sound_of e ≡ true → a ≡ limits_ok size room deadline
-    → (not (eqb e.count 0) && a) ≡ false → record { engine = e; answer = 14 } ≡ switch_of e size room deadline
-unfolding switch_of
-switch_refused e size room deadline a s ea g = refused e _ 14 _ s (rw (← ea, g)) (λ z. omega arith)
-
-pub switch_done : (e x : Engine) (size room deadline : ℕ) (a : Bool) → sound_of e ≡ true → a ≡ limits_ok size room deadline
-    → (not (eqb e.count 0) && a) ≡ true → x ≡ reset_of e size room (record { 0 = deadline }) → record { engine = x; answer = 0 } ≡ switch_of e size room deadline
-unfolding switch_of
-switch_done e x size room deadline a s ea g ex = done e _ _ _ s (rw (← ea, g)) ex
-
-pub offline_before : (e : Engine) → sound_of e ≡ true → e.count ≡ 0 → record { engine = e; answer = 0 } ≡ offline_of e
-unfolding offline_of
-offline_before e s z = done e 0 _ _ s refl (rw (eq-eqb e.count 0 z))
-
-pub offline_done : (e x : Engine) → sound_of e ≡ true → (e.count ≡ 0 → ⊥)
-    → x ≡ reset_of e e.framer.meter.size e.framer.meter.room e.framer.meter.deadline → record { engine = x; answer = 0 } ≡ offline_of e
-unfolding offline_of
-offline_done e x s z ex = done e 0 _ _ s refl (ex ∙ rw (ne_eqb e.count 0 z))
-
--- a failed send
-pub failed-none : (e : Engine) → sound_of e ≡ true → e.framer.meter.out ≡ false → record { engine = e; answer = 17 } ≡ failed_of e
-unfolding failed_of
-failed-none e s z = refused e _ 17 _ s (rw z) (λ y. omega arith)
-
-pub failed-done : (e : Engine) (w : Framer) → sound_of e ≡ true → e.framer.meter.out ≡ true → w ≡ failed e.framer
-    → record { engine = record { count = e.count; sources = e.sources; framer = w }; answer = 0 } ≡ failed_of e
-unfolding failed_of
-failed-done e w s z ew = done e _ _ _ s (rw z) (rw ew)

@@ -1,7 +1,10 @@
 -- The engine's calls as one kind of thing, and what a list of them comes to. Each clause is the contract of one public
 -- function; nothing else is said here.
-use Rattle.std.specs.Prelude.{ℕ, Bool, List, [], ◌∷◌, length}
+use Rattle.std.specs.Prelude.{ℕ, Bool, List, [], ◌∷◌, length, Result, Ok, Err}
 use Rattle.codec.specs.declared.time.Time.{Time}
+use Rattle.codec.specs.declared.time.Nanos.{Nanos}
+use Rattle.framer.specs.Cause.{answer_of}
+use Rattle.framer.specs.declared.cause.Cause.{Cause}
 use Rattle.bus.specs.Report.{can_report, lin_report, frame_report, conflict_report, error_report}
 use Rattle.bus.specs.Update.{can_update, lin_update, flexray_update}
 use Rattle.bus.specs.Filter.{can_mask, can_range, lin_mask, lin_range, slots_of}
@@ -14,9 +17,6 @@ use Rattle.mirror.specs.Take.{taken_of, output_of}
 use Rattle.mirror.specs.Failed.{failed_of}
 use Rattle.mirror.specs.declared.engine.Engine.{Engine}
 use Rattle.mirror.specs.declared.engine.Outcome.{Outcome}
-use Rattle.mirror.specs.declared.engine.Timed.{Timed}
-use Rattle.mirror.specs.declared.engine.Counted.{Counted}
-use Rattle.mirror.specs.declared.source.Added.{Added}
 
 -- a call with its arguments; a take has the output that is lent
 pub data Call : Type 0 where
@@ -56,17 +56,25 @@ pub record Step : Type 0 where
   pub engine : Engine
   pub said : Said
 
-abbrev plain : Outcome → Step
-plain o = record { engine = o.engine; said = record { answer = o.answer; number = 0; output = [] } }
+-- the number beside an answer, 0 beside a refusal
+abbrev pub beside : {A : Type 0} → (A → ℕ) → Result A Cause → ℕ
+beside number (Ok x) = number x
+beside number (Err c) = 0
 
-abbrev numbered : Added → Step
-numbered a = record { engine = a.engine; said = record { answer = a.answer; number = a.number; output = [] } }
+abbrev said : {A : Type 0} → (A → ℕ) → Result A Cause → List ℕ → Said
+said number r out = record { answer = answer_of r; number = beside number r; output = out }
 
-abbrev clocked : Timed → Step
-clocked o = record { engine = o.engine; said = record { answer = o.answer; number = o.back.0; output = [] } }
+abbrev plain : Outcome Unit → Step
+plain o = record { engine = o.engine; said = said (λ u. 0) o.answer [] }
 
-abbrev asked : Engine → Counted → Step
-asked e n = record { engine = e; said = record { answer = n.answer; number = n.count; output = [] } }
+abbrev numbered : Outcome ℕ → Step
+numbered o = record { engine = o.engine; said = said (λ n. n) o.answer [] }
+
+abbrev clocked : Outcome Nanos → Step
+clocked o = record { engine = o.engine; said = said (λ (b : Nanos). b.0) o.answer [] }
+
+abbrev asked : Engine → Result ℕ Cause → Step
+asked e r = record { engine = e; said = said (λ n. n) r [] }
 
 abbrev pub step_of : Engine → Call → Step
 step_of e (setup size room deadline pairs) = plain (setup_of e size room deadline pairs)
@@ -91,7 +99,7 @@ step_of e (remove source number) = plain (remove_of e source number)
 step_of e (tick t) = clocked (tick_of e t)
 step_of e (take out) = record {
   engine = (taken_of e (length out)).engine;
-  said = record { answer = (taken_of e (length out)).answer; number = (taken_of e (length out)).length; output = output_of e out };
+  said = said (λ n. n) (taken_of e (length out)).answer (output_of e out);
 }
 step_of e failed = plain (failed_of e)
 step_of e discards = asked e (discards_of e)

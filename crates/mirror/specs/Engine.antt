@@ -1,8 +1,9 @@
 -- The engine's own record, and what every call has in common (docs/RULES.md, "The engine", "Answers").
-use Rattle.std.specs.Prelude.{ℕ, Bool, false, ◌&&◌, List, [], get_or, set, replicate, ltb, leb, eqb}
+use Rattle.std.specs.Prelude.{ℕ, Bool, false, ◌&&◌, List, [], get_or, set, replicate, ltb, leb, None, Result, Ok, Err}
 use Rattle.codec.specs.Choice.{pick}
-use Rattle.codec.specs.declared.time.Nanos.{Nanos}
 use Rattle.codec.specs.declared.ident.Kind.TheVariants as Kind
+use Rattle.framer.specs.Cause.{guard}
+use Rattle.framer.specs.declared.cause.Cause.{Cause}
 use Rattle.framer.specs.Meter.{sound_meter}
 use Rattle.framer.specs.Framer.{empty_framer}
 use Rattle.framer.specs.declared.framer.Framer.{Framer}
@@ -10,8 +11,6 @@ use Rattle.bus.specs.Source.{fresh_source}
 use Rattle.bus.specs.declared.source.Source.{Source}
 use Rattle.mirror.specs.declared.engine.Engine.{Engine}
 use Rattle.mirror.specs.declared.engine.Outcome.{Outcome}
-use Rattle.mirror.specs.declared.engine.Timed.{Timed}
-use Rattle.mirror.specs.declared.engine.Counted.{Counted}
 
 unfoldable pub no_sources : List Source
 no_sources = replicate 8 (fresh_source Kind.Can 0)
@@ -25,20 +24,17 @@ unfoldable pub sound_of : Engine → Bool
 sound_of e = leb e.count 8 && sound_meter e.framer.meter
 
 -- 19 before all
-unfoldable pub cause_of : Engine → ℕ → ℕ
-cause_of e cause = pick (sound_of e) cause 19
+unfoldable pub cause_of : {A : Type 0} → Engine → Result A Cause → Result A Cause
+cause_of e rest = guard (sound_of e) Cause.Unsound rest
 
--- every nonzero answer leaves the state unchanged
-unfoldable pub answered : Engine → ℕ → Engine → Outcome
-answered e cause done = pick (eqb cause 0) (record { engine = done; answer = 0 }) (record { engine = e; answer = cause })
-
--- the same with what it tells of the clock, which is 0 beside a refusal (docs/RULES.md, "A clock that steps back")
-unfoldable pub timed : Outcome → Nanos → Timed
-timed o back = record { engine = o.engine; answer = o.answer; back = pick (eqb o.answer 0) back (record { 0 = 0 }) }
+-- every refusal leaves the state unchanged, and no other number stands beside it
+abbrev pub answered : {A : Type 0} → Engine → Result Unit Cause → A → Engine → Outcome A
+answered e (Ok u) x after = record { engine = after; answer = Ok x }
+answered e (Err c) x after = record { engine = e; answer = Err c }
 
 -- no such source (answer 2)
-unfoldable pub source_cause : Engine → ℕ → ℕ → ℕ
-source_cause e source rest = pick (leb e.count source) 2 rest
+unfoldable pub source_cause : {A : Type 0} → Engine → ℕ → Result A Cause → Result A Cause
+source_cause e source rest = guard (ltb source e.count) Cause.NoSource rest
 
 -- the place of a source; a number past the eighth is refused by its cause
 unfoldable pub index_of : ℕ → ℕ
@@ -52,8 +48,7 @@ no_source = record {
   started = false;
   state = 0;
   known = false;
-  shown = 0;
-  told = false;
+  shown = None;
   heard = false;
   places = [];
 }
@@ -65,13 +60,9 @@ source_at e source = get_or e.sources (index_of source) no_source
 unfoldable pub with_source : Engine → ℕ → Source → Framer → Engine
 with_source e source s w = record { count = e.count; sources = set e.sources (index_of source) s; framer = w }
 
--- a number that is asked for: only 19; other numbers beside a refusal are 0
-unfoldable pub asked_of : Engine → ℕ → Counted
-asked_of e n = pick (sound_of e) (record { answer = 0; count = n }) (record { answer = 19; count = 0 })
+-- the discard count (rule 3) and the failure count (rule 8), which are asked for: only 19
+unfoldable pub discards_of : Engine → Result ℕ Cause
+discards_of e = cause_of e (Ok e.framer.meter.discards)
 
--- the discard count (rule 3) and the failure count (rule 8)
-unfoldable pub discards_of : Engine → Counted
-discards_of e = asked_of e e.framer.meter.discards
-
-unfoldable pub failures_of : Engine → Counted
-failures_of e = asked_of e e.framer.meter.failures
+unfoldable pub failures_of : Engine → Result ℕ Cause
+failures_of e = cause_of e (Ok e.framer.meter.failures)

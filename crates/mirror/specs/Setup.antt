@@ -1,8 +1,10 @@
 -- Setup, switch and offline (docs/RULES.md, "The engine").
-use Rattle.std.specs.Prelude.{ℕ, suc, ◌/◌, ◌%◌, Bool, true, false, not, ◌&&◌, ◌||◌, List, [], ◌∷◌, map, length, set, leb, eqb}
+use Rattle.std.specs.Prelude.{ℕ, suc, ◌/◌, ◌%◌, Bool, true, false, not, ◌&&◌, ◌||◌, List, [], ◌∷◌, map, length, set, leb, eqb, Result, Ok}
 use Rattle.codec.specs.Choice.{pick}
 use Rattle.codec.specs.declared.ident.Kind.{Kind}
 use Rattle.codec.specs.declared.time.Millis.{Millis}
+use Rattle.framer.specs.Cause.{guard}
+use Rattle.framer.specs.declared.cause.Cause.{Cause}
 use Rattle.framer.specs.Meter.{limits_ok}
 use Rattle.framer.specs.Framer.{empty_framer}
 use Rattle.bus.specs.Source.{fresh_source, reset_source}
@@ -46,9 +48,13 @@ named k (kind ∷ []) sources = sources
 named k (kind ∷ (id ∷ rest)) sources = named (suc k) rest (set sources k (source_numbered kind id))
 
 -- setup: 19, 14 (out of range, kind and id named twice, or already done)
-unfoldable pub setup_of : Engine → ℕ → ℕ → ℕ → List ℕ → Outcome
+unfoldable pub setup_cause : Engine → ℕ → ℕ → ℕ → List ℕ → Result Unit Cause
+setup_cause e size room deadline pairs =
+    cause_of e (guard (eqb e.count 0 && limits_ok size room deadline && sources_ok pairs) Cause.BadSetup (Ok tt))
+
+unfoldable pub setup_of : Engine → ℕ → ℕ → ℕ → List ℕ → Outcome Unit
 setup_of e size room deadline pairs =
-    answered e (cause_of e (pick (eqb e.count 0 && limits_ok size room deadline && sources_ok pairs) 0 14)) (record {
+    answered e (setup_cause e size room deadline pairs) tt (record {
       count = length pairs / 2;
       sources = named 0 pairs no_sources;
       framer = empty_framer size room (record { 0 = deadline });
@@ -60,11 +66,13 @@ reset_of e size room deadline =
     record { count = e.count; sources = map reset_source e.sources; framer = empty_framer size room deadline }
 
 -- switch: 19, 14 (out of range, or before setup); the state after setup, with a new F, Q and D
-unfoldable pub switch_of : Engine → ℕ → ℕ → ℕ → Outcome
-switch_of e size room deadline =
-    answered e (cause_of e (pick (not (eqb e.count 0) && limits_ok size room deadline) 0 14)) (reset_of e size room (record { 0 = deadline }))
+unfoldable pub switch_cause : Engine → ℕ → ℕ → ℕ → Result Unit Cause
+switch_cause e size room deadline = cause_of e (guard (not (eqb e.count 0) && limits_ok size room deadline) Cause.BadSetup (Ok tt))
+
+unfoldable pub switch_of : Engine → ℕ → ℕ → ℕ → Outcome Unit
+switch_of e size room deadline = answered e (switch_cause e size room deadline) tt (reset_of e size room (record { 0 = deadline }))
 
 -- offline: 19; the state after setup with the same setup, and before setup nothing changes
-unfoldable pub offline_of : Engine → Outcome
+unfoldable pub offline_of : Engine → Outcome Unit
 offline_of e =
-    answered e (cause_of e 0) (pick (eqb e.count 0) e (reset_of e e.framer.meter.size e.framer.meter.room e.framer.meter.deadline))
+    answered e (cause_of e (Ok tt)) tt (pick (eqb e.count 0) e (reset_of e e.framer.meter.size e.framer.meter.room e.framer.meter.deadline))

@@ -1,14 +1,17 @@
 -- A tick (rule 6).
-use Rattle.std.specs.Prelude.{ℕ, zero, suc, not, [], get_or, set}
+use Rattle.std.specs.Prelude.{ℕ, zero, suc, [], get_or, set, Result, Ok}
 use Rattle.codec.specs.Choice.{pick}
 use Rattle.codec.specs.Time.{time_ok}
 use Rattle.codec.specs.declared.time.Time.{Time}
+use Rattle.codec.specs.declared.time.Nanos.{Nanos}
+use Rattle.framer.specs.Cause.{guard}
+use Rattle.framer.specs.declared.cause.Cause.{Cause}
 use Rattle.framer.specs.Meter.{back_for}
 use Rattle.framer.specs.Framer.{add, passed}
 use Rattle.bus.specs.Source.{tick_due, state_offer, calmed}
-use Rattle.mirror.specs.Engine.{cause_of, answered, timed, no_source}
+use Rattle.mirror.specs.Engine.{cause_of, answered, no_source}
 use Rattle.mirror.specs.declared.engine.Engine.{Engine}
-use Rattle.mirror.specs.declared.engine.Timed.{Timed}
+use Rattle.mirror.specs.declared.engine.Outcome.{Outcome}
 
 -- a state-only item for the source of number k, if it is due
 unfoldable pub tick_source : Engine → ℕ → Time → Engine
@@ -32,5 +35,8 @@ ticked e t =
     record { count = x.count; sources = x.sources; framer = passed x.framer t }
 
 -- tick: 19, 7; how far the clock is behind is measured from the frame as the tick found it, before its state items
-unfoldable pub tick_of : Engine → Time → Timed
-tick_of e t = timed (answered e (cause_of e (pick (not (time_ok t)) 7 0)) (ticked e t)) (back_for e.framer.meter t)
+unfoldable pub tick_cause : Engine → Time → Result Unit Cause
+tick_cause e t = cause_of e (guard (time_ok t) Cause.BadTime (Ok tt))
+
+unfoldable pub tick_of : Engine → Time → Outcome Nanos
+tick_of e t = answered e (tick_cause e t) (back_for e.framer.meter t) (ticked e t)

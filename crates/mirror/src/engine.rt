@@ -1,14 +1,13 @@
 // The engine, by value: its sources, and the framer that mirrors what they hand over.
-ghost use Rattle.std.specs.Prelude.{◌≡◌, ◌&&◌, leb};
+ghost use Rattle.std.specs.Prelude.{◌≡◌};
 ghost use Rattle.codec.specs.Number.{Below};
-ghost use Rattle.framer.specs.Meter.{sound_meter};
-ghost use Rattle.mirror.specs.Engine.{no_sources, fresh_engine, index_of, asked_of, discards_of, failures_of};
+ghost use Rattle.mirror.specs.Engine.{no_sources, fresh_engine, index_of, cause_of, discards_of, failures_of};
 
 use bus::source::Source;
 use codec::ident::Kind;
-use codec::time::{Millis, Nanos};
+use codec::time::Millis;
+use framer::cause::{Cause, check};
 use framer::framer::Framer;
-use framer::meter::Meter;
 
 #[derive(Clone, Copy)]
 pub struct Engine {
@@ -18,27 +17,11 @@ pub struct Engine {
     pub framer: Framer,
 }
 
-// What most calls come to: the engine after them, and the answer's number.
+// What a call comes to: the engine after it, and the answer with what stands beside it. A refusal leaves the engine as it was.
 #[derive(Clone, Copy)]
-pub struct Outcome {
+pub struct Outcome<T> {
     pub engine: Engine,
-    pub answer: u8,
-}
-
-// What a report or a tick comes to. Beside 0 it tells how far the clock stood behind the frame being filled; 0 where it did not,
-// and beside a refusal.
-#[derive(Clone, Copy)]
-pub struct Timed {
-    pub engine: Engine,
-    pub answer: u8,
-    pub back: Nanos,
-}
-
-// The discard count or the failure count, 0 beside a refusal.
-#[derive(Clone, Copy)]
-pub struct Counted {
-    pub answer: u8,
-    pub count: u32,
+    pub answer: Result<T, Cause>,
 }
 
 #[tactic(auto, unfolding(crate::specs::Engine::no_sources))]
@@ -61,13 +44,6 @@ pub fn fresh() -> Engine
     }
 }
 
-// The one soundness rule: it looks at counters alone.
-pub(crate) fn sound(count: usize, m: Meter) -> bool
-    ensures { result ≡ (leb count 8 && sound_meter m) }
-{
-    (count <= 8) & framer::meter::sound(m)
-}
-
 // The place of a source; a number past the eighth has none of its own and is refused by its cause.
 #[tactic(auto, unfolding(crate::specs::Engine::index_of))]
 pub(crate) fn index(source: u64) -> usize
@@ -77,36 +53,37 @@ pub(crate) fn index(source: u64) -> usize
 }
 
 impl Engine {
-    #[tactic(auto, unfolding(crate::specs::Engine::asked_of, crate::specs::Engine::sound_of))]
-    fn asked(self, n: u32) -> Counted
-        ensures { result ≡ asked_of self n }
+    // The one soundness rule, 19 before all: it looks at counters alone.
+    #[tactic(auto, unfolding(crate::specs::Engine::cause_of, crate::specs::Engine::sound_of))]
+    pub(crate) fn sound(self) -> Result<(), Cause>
+        ensures { result ≡ cause_of self (Ok tt) }
     {
-        let m = self.framer.meter;
-        if !sound(self.count, m) {
-            return Counted {
-                answer: 19,
-                count: 0,
-            };
-        }
-        Counted {
-            answer: 0,
-            count: n,
-        }
+        check((self.count <= 8) & framer::meter::sound(self.framer.meter), Cause::Unsound)
     }
 
-    #[tactic(auto, unfolding(crate::specs::Engine::discards_of))]
-    pub fn discards(self) -> Counted
+    #[tactic(auto, unfolding(crate::specs::Engine::cause_of, crate::specs::Engine::discards_of))]
+    pub fn discards(self) -> Result<u32, Cause>
         ensures { result ≡ discards_of self }
     {
-        let m = self.framer.meter;
-        self.asked(m.discards)
+        self.sound()?;
+        Ok(self.framer.meter.discards)
     }
 
-    #[tactic(auto, unfolding(crate::specs::Engine::failures_of))]
-    pub fn failures(self) -> Counted
+    #[tactic(auto, unfolding(crate::specs::Engine::cause_of, crate::specs::Engine::failures_of))]
+    pub fn failures(self) -> Result<u32, Cause>
         ensures { result ≡ failures_of self }
     {
-        let m = self.framer.meter;
-        self.asked(m.failures)
+        self.sound()?;
+        Ok(self.framer.meter.failures)
+    }
+
+    // A refusal changes nothing.
+    pub(crate) fn refused<T>(self, cause: Cause) -> Outcome<T>
+        ensures { result ≡ record { engine = self; answer = Err cause } }
+    {
+        Outcome {
+            engine: self,
+            answer: Err(cause),
+        }
     }
 }

@@ -1,32 +1,31 @@
 // The sender says that the frame last taken was not sent: 17.
 ghost use Rattle.std.specs.Prelude.{◌≡◌};
-ghost use Rattle.mirror.specs.Failed.{failed_of};
+ghost use Rattle.mirror.specs.Failed.{failed_cause, failed_of};
 
 use crate::engine::{Engine, Outcome};
+use framer::cause::{Cause, check};
 
 impl Engine {
-    #[tactic(auto, unfolding(crate::specs::Engine::sound_of, crate::specs::Failed::failed_of))]
-    pub fn failed(mut self) -> Outcome
+    #[tactic(auto, unfolding(crate::specs::Failed::failed_cause, crate::specs::Engine::cause_of))]
+    fn may_fail(self) -> Result<(), Cause>
+        ensures { result ≡ failed_cause self }
+    {
+        self.sound()?;
+        check(self.framer.meter.out, Cause::NothingOut)
+    }
+
+    #[tactic(auto, unfolding(crate::specs::Failed::failed_of))]
+    pub fn failed(mut self) -> Outcome<()>
         ensures { result ≡ failed_of self }
     {
-        let m = self.framer.meter;
-        if !crate::engine::sound(self.count, m) {
-            return Outcome {
-                engine: self,
-                answer: 19,
-            };
+        let answer = self.may_fail();
+        if answer.is_ok() {
+            let f = self.framer;
+            self.framer = f.fail();
         }
-        if !m.out {
-            return Outcome {
-                engine: self,
-                answer: 17,
-            };
-        }
-        let f = self.framer;
-        self.framer = f.fail();
         Outcome {
             engine: self,
-            answer: 0,
+            answer,
         }
     }
 }

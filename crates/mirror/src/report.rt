@@ -1,52 +1,49 @@
 // Reports: 7, 2, 4, 3, 5, 6, 1, 8.
 ghost use Rattle.std.specs.Prelude.{◌≡◌, []};
-ghost use Rattle.bus.specs.Report.{can_report, lin_report, frame_report, conflict_report, error_report};
+ghost use Rattle.bus.specs.Report.{can_report, lin_report, frame_report, conflict_report, error_report, report_cause};
+ghost use Rattle.mirror.specs.Engine.{cause_of};
 ghost use Rattle.mirror.specs.Report.{report_of};
 
-use crate::engine::{Engine, Timed};
+use crate::engine::{Engine, Outcome};
 use bus::report::Report;
+use bus::source::Source;
 use codec::time::{Nanos, Time};
+use framer::cause::Cause;
 
 impl Engine {
-    #[tactic(auto, unfolding(crate::specs::Report::report_of, crate::specs::Engine::sound_of))]
-    fn report(mut self, r: Report, payload: &[u8]) -> Timed
+    #[tactic(auto, unfolding(crate::specs::Engine::cause_of))]
+    fn accepts(self, s: Source, r: Report, n: usize) -> Result<(), Cause>
+        ensures { result ≡ cause_of self (report_cause self.count self.framer.meter.size s r n) }
+    {
+        self.sound()?;
+        bus::report::report_cause(self.count, self.framer.meter.size, s, r, n)
+    }
+
+    #[tactic(auto, unfolding(crate::specs::Report::report_of))]
+    fn report(mut self, r: Report, payload: &[u8]) -> Outcome<Nanos>
         ensures { result ≡ report_of self r payload.now }
     {
-        let m = self.framer.meter;
-        if !crate::engine::sound(self.count, m) {
-            return Timed {
-                engine: self,
-                answer: 19,
-                back: Nanos(0),
-            };
-        }
         let k = crate::engine::index(r.source);
         let s = self.sources[k];
-        let cause = bus::report::report_cause(self.count, m.size, s, r, payload.len());
-        if cause != 0 {
-            return Timed {
-                engine: self,
-                answer: cause,
-                back: Nanos(0),
-            };
+        if let Err(cause) = self.accepts(s, r, payload.len()) {
+            return self.refused(cause);
         }
         let f = self.framer;
         self.framer = f.add(r.time, bus::report::offer(s, r), payload);
         self.sources[k] = bus::report::settle(s, r);
-        Timed {
+        Outcome {
             engine: self,
-            answer: 0,
-            back: framer::meter::back_for(m, r.time),
+            answer: Ok(framer::meter::back_for(f.meter, r.time)),
         }
     }
 
-    pub fn can(self, source: u64, time: Time, key: u32, payload: &[u8]) -> Timed
+    pub fn can(self, source: u64, time: Time, key: u32, payload: &[u8]) -> Outcome<Nanos>
         ensures { result ≡ report_of self (can_report source time key) payload.now }
     {
         self.report(bus::report::can(source, time, key), payload)
     }
 
-    pub fn lin(self, source: u64, time: Time, pid: u32, errors: u32, payload: &[u8]) -> Timed
+    pub fn lin(self, source: u64, time: Time, pid: u32, errors: u32, payload: &[u8]) -> Outcome<Nanos>
         ensures { result ≡ report_of self (lin_report source time pid errors) payload.now }
     {
         self.report(bus::report::lin(source, time, pid, errors), payload)
@@ -60,7 +57,7 @@ impl Engine {
         slot: u32,
         cycle: u32,
         payload: &[u8],
-    ) -> Timed
+    ) -> Outcome<Nanos>
         ensures { result ≡ report_of self (frame_report source time channels slot cycle) payload.now }
     {
         self.report(
@@ -69,7 +66,7 @@ impl Engine {
         )
     }
 
-    pub fn conflict(self, source: u64, time: Time, channels: u32, slot: u32, cycle: u32) -> Timed
+    pub fn conflict(self, source: u64, time: Time, channels: u32, slot: u32, cycle: u32) -> Outcome<Nanos>
         ensures { result ≡ report_of self (conflict_report source time channels slot cycle) [] }
     {
         self.report(
@@ -78,7 +75,7 @@ impl Engine {
         )
     }
 
-    pub fn flexray_error(self, source: u64, time: Time, channels: u32, bits: u32) -> Timed
+    pub fn flexray_error(self, source: u64, time: Time, channels: u32, bits: u32) -> Outcome<Nanos>
         ensures { result ≡ report_of self (error_report source time channels bits) [] }
     {
         self.report(bus::report::error(source, time, channels, bits), b"")

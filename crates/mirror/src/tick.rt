@@ -1,9 +1,10 @@
 // A tick: 7; then a state-only item for each source that is due, and the deadline.
 ghost use Rattle.std.specs.Prelude.{◌≡◌, ◌<◌, ◌≤◌};
-ghost use Rattle.mirror.specs.Tick.{tick_source, states_of, tick_of};
+ghost use Rattle.mirror.specs.Tick.{tick_source, states_of, tick_cause, tick_of};
 
-use crate::engine::{Engine, Timed};
+use crate::engine::{Engine, Outcome};
 use codec::time::{Nanos, Time};
+use framer::cause::{Cause, check};
 
 impl Engine {
     fn tick_source(mut self, k: usize, t: Time) -> Engine
@@ -25,42 +26,35 @@ impl Engine {
         requires { self.count ≤ 8 }
         ensures { result ≡ states_of self.count 0 self t }
     {
-        let n = self.count;
         let mut e = self;
-        let mut k: usize = 0;
-        while k < n {
+        for k in 0..self.count {
             e = e.tick_source(k, t);
-            k += 1;
         }
         e
     }
 
-    #[tactic(auto, unfolding(crate::specs::Tick::tick_of, crate::specs::Engine::sound_of))]
-    pub fn tick(self, t: Time) -> Timed
+    #[tactic(auto, unfolding(crate::specs::Tick::tick_cause, crate::specs::Engine::cause_of))]
+    fn may_tick(self, t: Time) -> Result<(), Cause>
+        ensures { result ≡ tick_cause self t }
+    {
+        self.sound()?;
+        check(codec::time::in_range(t), Cause::BadTime)
+    }
+
+    #[tactic(auto, unfolding(crate::specs::Tick::tick_of))]
+    pub fn tick(self, t: Time) -> Outcome<Nanos>
         ensures { result ≡ tick_of self t }
     {
+        if let Err(cause) = self.may_tick(t) {
+            return self.refused(cause);
+        }
         let m = self.framer.meter;
-        if !crate::engine::sound(self.count, m) {
-            return Timed {
-                engine: self,
-                answer: 19,
-                back: Nanos(0),
-            };
-        }
-        if !codec::time::in_range(t) {
-            return Timed {
-                engine: self,
-                answer: 7,
-                back: Nanos(0),
-            };
-        }
         let mut e = self.states(t);
         let f = e.framer;
         e.framer = f.pass(t);
-        Timed {
+        Outcome {
             engine: e,
-            answer: 0,
-            back: framer::meter::back_for(m, t),
+            answer: Ok(framer::meter::back_for(m, t)),
         }
     }
 }

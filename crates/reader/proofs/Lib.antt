@@ -1,5 +1,5 @@
-pub mod TimeLaws
 pub mod ItemsLaws
+pub mod AnswerLaws
 pub mod AlongLaws
 pub mod FrameLaws
 pub mod Theorems

@@ -1,19 +1,20 @@
 -- Demand 2 for frames as byte strings. Assumes nothing.
 use Prim.Native.Nat.{ℕ, zero, suc, ◌+◌, ◌≤◌, ◌<◌}
 use mathlib.Core.Path.{◌≡◌, refl, sym, ◌∙◌, ap}
-use mathlib.Core.Bool.{Bool, true, ◌||◌}
+use mathlib.Core.Bool.{Bool, true, false, ◌||◌}
 use mathlib.Core.List.{List, [], ◌∷◌, ◌++◌, append-nil}
 use native.Mathlib.Omega.{arith}
 use lib.ListN.{length, take, drop, length-append, take-append-drop}
 use lib.Dec.{eqb}
 use lib.Seq.{drop-length, drop-drop}
 use borrow.Author.Tests.{eq-eqb, ne_eqb}
-use Rattle.std.specs.Prelude.{Some, None, Result, Ok}
+use Rattle.std.specs.Prelude.{Option, Some, None, Result, Ok, Err}
+use Rattle.codec.specs.Choice.{pick, then}
 use Rattle.codec.specs.Number.{Bytes}
 use Rattle.codec.specs.Time.{recovered_of}
 use Rattle.codec.specs.Item.{encode}
 use Rattle.codec.specs.Field.{read_item, bytes_at}
-use Rattle.codec.specs.Header.{read_header, header_bytes}
+use Rattle.codec.specs.Header.{read_header, header_bytes, time_at}
 use Rattle.codec.specs.Layout.{Entry, Head, AllValid, body, layout}
 use Rattle.codec.specs.declared.time.Time.{Time}
 use Rattle.codec.specs.declared.header.Header.{Header}
@@ -27,7 +28,9 @@ use Rattle.codec.proofs.NumberLaws.{word_is}
 use Rattle.codec.proofs.HeaderLaws.{header_length}
 use Rattle.reader.proofs.AlongLaws.{walk_end, walk_item, items_end, items_item, starts_item, starts_here, starts_last}
 use Rattle.reader.proofs.FrameLaws.{accepted, all_along, laid_length, body-length}
-use Rattle.reader.specs.Frame.{walk_of, items_of, starts_of, Clean, judge_of, laid_out, step_of, held_of, payload_of, payload_at_of, item_at_of, time_at, time_in}
+use Rattle.reader.specs.declared.place.Stepped.{Stepped}
+use Rattle.codec.specs.declared.refusal.Refusal.{Refusal}
+use Rattle.reader.specs.Frame.{resolved, walk_of, items_of, starts_of, Clean, judge_of, laid_out, step_of, payload_of, payload_at_of, item_at_of, time_in}
 use Rattle.reader.specs.Listing.{stepping, listing, places_of, among, Framed}
 
 -- the bytes from a place on are the layout of the items read there, and each item is valid
@@ -69,7 +72,7 @@ module _ (s : List ℕ) (b : Bytes s) where
 -- reading a list of valid items that stands at a place to the end of the bytes gives it back
 module _ (s : List ℕ) where
   read_back : (es : List Entry) (at : ℕ) → AllValid es → Stands s at (body es) → at + length (body es) ≡ length s
-      → (walk_of s at ≡ (Ok tt)) × (items_of s at ≡ es)
+      → (walk_of s at ≡ Ok tt) × (items_of s at ≡ es)
   read_back [] at v w n = let e : length s ≤ at = omega arith in (walk_end s at e, items_end s at e)
   read_back (e ∷ es) at v w n =
       let w1 = left (encode e.item e.payload) (body es) w in
@@ -153,10 +156,21 @@ module _ (s : List ℕ) (b : Bytes s) {h : Header} (j : judge_of s ≡ Ok h) whe
   step_at at e = simp (j, e)
 
   pub payload_is : (at : ℕ) → starts_of s at 14 ≡ true → payload_of s at ≡ payload_at_of s at
-  unfolding payload_of held_of
-  payload_is at e = simp (j, e)
+  unfolding payload_of item_at_of payload_at_of
+  payload_is at e = rw (step_at at e) (go (eqb at (length s)) (read_item s at))
+    where
+      found : Decoded → Result (Option Stepped) Refusal
+      found d = Ok (Some (record { next = d.next; time = recovered_of (time_in s) d.item.offset.0; item = d.item; length = d.len }))
 
-  end_at : (at : ℕ) → at ≡ length s → item_at_of s at ≡ (Ok None)
+      load : Result Decoded Refusal → List ℕ
+      load r = resolved r (λ d. bytes_at s d.start d.len) (λ why. [])
+
+      go : (b : Bool) (r : Result Decoded Refusal) → resolved (pick b (Ok None) (then r found)) (λ x. load r) (λ why. []) ≡ load r
+      go true r = refl
+      go false (Ok d) = refl
+      go false (Err why) = refl
+
+  end_at : (at : ℕ) → at ≡ length s → item_at_of s at ≡ Ok None
   unfolding item_at_of
   end_at at e = simp (eq-eqb at (length s) e)
 
@@ -180,7 +194,7 @@ module _ (s : List ℕ) (b : Bytes s) {h : Header} (j : judge_of s ≡ Ok h) whe
   unfolding stepping
   steps_end at m zero f r = rw (items_end s at (omega arith))
   steps_end at m (suc n) f r =
-      let g : step_of s at ≡ (Ok None) = step_at at (r at (starts_last s at at m ∙ eq-eqb at at refl)) ∙ end_at at m in
+      let g : step_of s at ≡ Ok None = step_at at (r at (starts_last s at at m ∙ eq-eqb at at refl)) ∙ end_at at m in
       rw (items_end s at (omega arith)) (simp g)
 
   steps_item : (at : ℕ) (d : Decoded) → at < length s → read_item s at ≡ Ok d → Stepwise d.next → Stepwise at
@@ -221,7 +235,7 @@ module _ (s : List ℕ) (b : Bytes s) {h : Header} (j : judge_of s ≡ Ok h) whe
       starts-at p 14 (header_got s a.0).long a.1
 
   -- the last of them is the end of the frame, which says so
-  pub end_says : step_of s (length s) ≡ (Ok None)
+  pub end_says : step_of s (length s) ≡ Ok None
   end_says =
       let m : among (length s) (places_of 14 (items_of s 14)) ≡ true = rw (← chain_ends) (last_place (items_of s 14) 14) in
       step_at (length s) (starts_exactly (length s) ∙ m) ∙ end_at (length s) refl

@@ -1,10 +1,10 @@
 -- Reading a frame (docs/RULES.md, "Reading a frame"): the verdict on the whole, then header, items and payloads.
-use Rattle.std.specs.Prelude.{ℕ, zero, suc, ◌+◌, ◌-◌, ◌≡◌, Bool, false, ◌||◌, List, [], ◌∷◌, length, leb, eqb, Option, Some, None, Result, Ok, Err, ⊤}
+use Rattle.std.specs.Prelude.{ℕ, zero, suc, ◌-◌, ◌≡◌, Bool, false, ◌||◌, List, [], ◌∷◌, length, leb, eqb, Option, Some, None, Result, Ok, Err, ⊤}
 use Rattle.codec.specs.Choice.{pick, then}
-use Rattle.codec.specs.Number.{word_at, over}
+use Rattle.codec.specs.Number.{over}
 use Rattle.codec.specs.Time.{recovered_of}
 use Rattle.codec.specs.Field.{read_item, bytes_at}
-use Rattle.codec.specs.Header.{read_header}
+use Rattle.codec.specs.Header.{read_header, time_at}
 use Rattle.codec.specs.Layout.{Entry, layout}
 use Rattle.codec.specs.declared.time.Time.{Time}
 use Rattle.codec.specs.declared.refusal.Refusal.{Refusal}
@@ -41,15 +41,11 @@ items_of s at =
 
 -- no refusal from a place on
 abbrev pub Clean : List ℕ → ℕ → Type 0
-Clean s at = walk_of s at ≡ (Ok tt)
+Clean s at = walk_of s at ≡ Ok tt
 
 -- the header first, then the items from place 14
 unfoldable pub judge_of : List ℕ → Result Header Refusal
 judge_of s = then (read_header s) (λ h. then (walk_of s 14) (λ clean. Ok h))
-
--- the time at an index, as a header has it: seconds (6), nanoseconds (4)
-unfoldable pub time_at : List ℕ → ℕ → Time
-time_at s at = record { sec = word_at 6 s at; nano = word_at 4 s (at + 6) }
 
 -- the header time
 abbrev pub time_in : List ℕ → Time
@@ -70,12 +66,9 @@ payload_at_of s place = resolved (read_item s place) (λ d. bytes_at s d.start d
 unfoldable pub step_of : List ℕ → ℕ → Result (Option Stepped) Refusal
 step_of s place = then (judge_of s) (λ h. pick (starts_of s place 14) (item_at_of s place) (Err Refusal.Place))
 
-unfoldable pub held_of : List ℕ → ℕ → Bool
-held_of s place = resolved (judge_of s) (λ h. starts_of s place 14) (λ why. false)
-
 -- the end, an item without payload, or a refusal shows an empty part
 unfoldable pub payload_of : List ℕ → ℕ → List ℕ
-payload_of s place = pick (held_of s place) (payload_at_of s place) []
+payload_of s place = resolved (step_of s place) (λ found. payload_at_of s place) (λ why. [])
 
 -- the yielded header and items laid out again
 unfoldable pub laid_out : List ℕ → Header → List ℕ
@@ -84,7 +77,9 @@ laid_out s h = layout h.sequence h.time (items_of s 14)
 -- the reader's refusal first, then 12
 unfoldable pub rewrite_of : List ℕ → List ℕ → Result ℕ RewriteError
 rewrite_of s out =
-    resolved (judge_of s) (λ h. pick (leb (length s) (length out)) (Ok (length s)) (Err RewriteError.Small)) (λ why. Err (RewriteError.Frame why))
+    resolved (judge_of s)
+    (λ h. pick (leb (length s) (length out)) (Ok (length s)) (Err RewriteError.Small))
+    (λ why. Err (RewriteError.Frame why))
 
 -- the bytes at the front of the output; later output bytes stay, and all of them where it is refused
 unfoldable pub rewritten_of : List ℕ → List ℕ → List ℕ

@@ -3,7 +3,8 @@
 use Rattle.std.specs.Prelude.{ℕ, zero, suc, ◌+◌, ◌*◌, min, Bool, ◌&&◌, ◌||◌, List, [], ◌∷◌, map, length, take, drop, get_or, ltb, leb, eqb, Result, Ok, Err, ⊤}
 use Rattle.codec.specs.Choice.{pick}
 use Rattle.codec.specs.declared.time.Time.{Time}
-use Rattle.reader.specs.Frame.{judge_of, resolved, time_at}
+use Rattle.codec.specs.Header.{time_at}
+use Rattle.reader.specs.Frame.{judge_of, resolved}
 use Rattle.recording.specs.declared.error.RecordError.{RecordError}
 use Rattle.recording.specs.declared.field.Found.{Found}
 
@@ -41,7 +42,9 @@ left_of s = along (λ rest. rest) (λ f rest. rest) (length s) s
 
 -- tag 1, a mirror frame: 41 over 1,472 bytes, else the reader's verdict
 unfoldable pub frame_found : ℕ → List ℕ → Result Found RecordError
-frame_found n body = pick (ltb 1472 n) (Err RecordError.Long) (resolved (judge_of body) (λ h. Ok (Found.Frame h)) (λ why. Err (RecordError.Frame why)))
+frame_found n body =
+    pick (ltb 1472 n) (Err RecordError.Long)
+    (resolved (judge_of body) (λ h. Ok (Found.Frame h)) (λ why. Err (RecordError.Frame why)))
 
 -- tag 2, a text note: 41 over 1,472 bytes; any bytes are a note
 unfoldable pub note_found : ℕ → Result Found RecordError

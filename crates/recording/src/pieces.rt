@@ -8,7 +8,8 @@ use crate::error::RecordError;
 use crate::field::{Field, Found};
 
 // Where reading stands: how many bytes of the field under way were read, tag and length among them; those
-// three bytes, as far as they were read; and how many fields were skipped so far.
+// three bytes, as far as they were read; and how many fields were skipped so far. A caller may hand back any place: so its
+// bytes stand side by side, `sound` mends it, and neither an enum of states nor an invariant asks more of it.
 #[derive(Clone, Copy)]
 pub struct Place {
     pub past: usize,
@@ -26,46 +27,124 @@ pub struct Step {
     pub seen: Option<Field>,
 }
 
-// Between two fields.
-fn between(skipped: u32) -> Place
-    ensures { result ≡ fresh skipped }
-{
-    Place {
-        past: 0,
-        tag: 0,
-        high: 0,
-        low: 0,
-        skipped,
+impl Place {
+    fn between(skipped: u32) -> Place
+        ensures { result ≡ fresh skipped }
+    {
+        Place {
+            past: 0,
+            tag: 0,
+            high: 0,
+            low: 0,
+            skipped,
+        }
     }
-}
 
-// The start of a file.
-pub fn begin() -> Place
-    ensures { result ≡ fresh 0 }
-{
-    between(0)
-}
+    fn length(self) -> u16
+        ensures { result ≡ length_of self }
+    {
+        u16::from_be_bytes([self.high, self.low])
+    }
 
-fn length_of(p: Place) -> u16
-    ensures { result ≡ length_of p }
-{
-    u16::from_be_bytes([p.high, p.low])
-}
+    fn size(self) -> usize
+        ensures { Below (size_of self) 65539 result }
+    {
+        3 + usize::from(self.length())
+    }
 
-fn size_of(p: Place) -> usize
-    ensures { Below (size_of p) 65539 result }
-{
-    3 + length_of(p) as usize
-}
+    // Reading never stops at the end of a field. A place that says so counts as one between two fields.
+    #[tactic(auto, using(crate::proofs::PlaceLaws::sound_same, crate::proofs::PlaceLaws::sound_fresh))]
+    fn sound(self) -> Place
+        ensures { result ≡ sound_of self }
+    {
+        if self.past < self.size() {
+            self
+        } else {
+            Place::between(self.skipped)
+        }
+    }
 
-// Reading never stops at the end of a field. A place that says so counts as one between two fields.
-fn sound(p: Place) -> Place
-    ensures { result ≡ sound_of p }
-{
-    if p.past < size_of(p) {
-        p
-    } else {
-        between(p.skipped)
+    // With the bytes of tag and length that a piece brings.
+    #[tactic(auto, unfolding(crate::specs::Pieces::headed_of))]
+    fn headed(self, piece: &[u8]) -> Place
+        ensures { result ≡ headed_of self piece.now }
+    {
+        Place {
+            tag: head_byte(0, self.past, self.tag, piece),
+            high: head_byte(1, self.past, self.high, piece),
+            low: head_byte(2, self.past, self.low, piece),
+            ..self
+        }
+    }
+
+    // How many of n bytes belong to the field under way.
+    #[tactic(auto, unfolding(crate::specs::Pieces::used_of))]
+    fn used(self, n: usize) -> usize
+        ensures { result ≡ used_of self n }
+    {
+        n.min(self.size().saturating_sub(self.past))
+    }
+
+    // The bytes of the piece that belong to the body of the field under way.
+    #[tactic(auto, using(crate::proofs::PlaceLaws::used_most))]
+    fn part<'a>(self, piece: &'a [u8]) -> &'a [u8]
+        ensures { result.now ≡ part_of self piece.now }
+    {
+        let n = self.used(piece.len());
+        let head = 3usize.saturating_sub(self.past);
+        &piece[head.min(n)..n]
+    }
+
+    // They go after those that were kept before.
+    #[tactic(auto, using(crate::proofs::PlaceLaws::not_kept))]
+    fn keep(self, buffer: &mut [u8], piece: &[u8])
+        ensures { buffer.new ≡ buffer_of self buffer.old piece.now }
+    {
+        if crate::field::kept(self.tag, self.length()) {
+            codec::number::put_bytes(buffer, self.past.saturating_sub(3), self.part(piece));
+        }
+    }
+
+    #[tactic(auto, unfolding(crate::specs::Pieces::found_of))]
+    fn found(self, buffer: &[u8]) -> Result<Found, RecordError>
+        ensures { result ≡ found_of self buffer.now }
+    {
+        let length = self.length();
+        let body = codec::field::part_at(buffer, 0, usize::from(length));
+        crate::field::judge(self.tag, length, body)
+    }
+
+    // The field is complete with n bytes more.
+    fn done(self, n: usize, found: Result<Found, RecordError>) -> Step
+        ensures { result ≡ done_of self n found }
+    {
+        Step {
+            place: Place::between(count(found, self.skipped)),
+            used: n,
+            seen: Some(Field {
+                tag: self.tag,
+                length: self.length(),
+                found,
+            }),
+        }
+    }
+
+    // N bytes further, to the end of the field or short of it.
+    #[tactic(auto, using(crate::proofs::PlaceLaws::ends_more, crate::proofs::PlaceLaws::ends_done))]
+    fn ends(self, n: usize, buffer: &[u8]) -> Step
+        ensures { result ≡ ends_of self n buffer.now }
+    {
+        if self.size().saturating_sub(self.past) <= n {
+            return self.done(n, self.found(buffer));
+        }
+        Step {
+            place: Place {
+                past: self.past + n,
+                ..self
+            },
+            used: n,
+            seen: None,
+        }
     }
 }
 
@@ -80,54 +159,6 @@ fn head_byte(k: usize, past: usize, old: u8, piece: &[u8]) -> u8
     piece.get(k - past).copied().unwrap_or(old)
 }
 
-#[tactic(auto, unfolding(crate::specs::Pieces::headed_of))]
-fn headed(p: Place, piece: &[u8]) -> Place
-    ensures { result ≡ headed_of p piece.now }
-{
-    Place {
-        tag: head_byte(0, p.past, p.tag, piece),
-        high: head_byte(1, p.past, p.high, piece),
-        low: head_byte(2, p.past, p.low, piece),
-        ..p
-    }
-}
-
-// How many of n bytes belong to the field under way.
-#[tactic(auto, unfolding(crate::specs::Pieces::used_of))]
-fn used(p: Place, n: usize) -> usize
-    ensures { result ≡ used_of p n }
-{
-    n.min(size_of(p).saturating_sub(p.past))
-}
-
-// The bytes of the piece that belong to the body of the field under way.
-#[tactic(auto, using(crate::proofs::PlaceLaws::used_most))]
-fn part(p: Place, piece: &[u8]) -> &[u8]
-    ensures { result.now ≡ part_of p piece.now }
-{
-    let n = used(p, piece.len());
-    let head = 3usize.saturating_sub(p.past);
-    &piece[head.min(n)..n]
-}
-
-// They go after those that were kept before.
-#[tactic(auto, using(crate::proofs::PlaceLaws::not_kept))]
-fn keep(p: Place, buffer: &mut [u8], piece: &[u8])
-    ensures { buffer.new ≡ buffer_of p buffer.old piece.now }
-{
-    if crate::field::kept(p.tag, length_of(p)) {
-        codec::number::put_bytes(buffer, p.past.saturating_sub(3), part(p, piece));
-    }
-}
-
-#[tactic(auto, unfolding(crate::specs::Pieces::found_of))]
-fn found(p: Place, buffer: &[u8]) -> Result<Found, RecordError>
-    ensures { result ≡ found_of p buffer.now }
-{
-    let n = length_of(p);
-    crate::field::judge(p.tag, n, codec::field::part_at(buffer, 0, n as usize))
-}
-
 // The count of skipped fields stops at 4,294,967,295.
 fn count(found: Result<Found, RecordError>, skipped: u32) -> u32
     ensures { result ≡ counted found skipped }
@@ -138,61 +169,30 @@ fn count(found: Result<Found, RecordError>, skipped: u32) -> u32
     }
 }
 
-fn done(p: Place, n: usize, found: Result<Found, RecordError>) -> Step
-    ensures { result ≡ done_of p n found }
+// The start of a file.
+pub fn begin() -> Place
+    ensures { result ≡ fresh 0 }
 {
-    Step {
-        place: between(count(found, p.skipped)),
-        used: n,
-        seen: Some(Field {
-            tag: p.tag,
-            length: length_of(p),
-            found,
-        }),
-    }
-}
-
-#[tactic(auto, using(crate::proofs::PlaceLaws::ends_more, crate::proofs::PlaceLaws::ends_done))]
-fn ends(p: Place, n: usize, buffer: &[u8]) -> Step
-    ensures { result ≡ ends_of p n buffer.now }
-{
-    if size_of(p).saturating_sub(p.past) <= n {
-        return done(p, n, found(p, buffer));
-    }
-    Step {
-        place: Place {
-            past: p.past + n,
-            ..p
-        },
-        used: n,
-        seen: None,
-    }
-}
-
-#[tactic(auto, unfolding(crate::specs::Pieces::next_of, crate::specs::Pieces::kept_of, crate::specs::Pieces::place_of))]
-fn advance(place: Place, buffer: &mut [u8], piece: &[u8]) -> Step
-    ensures value { result ≡ next_of place buffer.old piece.now }
-    ensures buffer_after { buffer.new ≡ kept_of place buffer.old piece.now }
-{
-    let p = headed(sound(place), piece);
-    keep(p, buffer, piece);
-    ends(p, used(p, piece.len()), buffer)
+    Place::between(0)
 }
 
 // Goes on with the rest of a piece, as far as the end of one field or of the piece. After a finding the body
 // that was kept is the front of the buffer.
+#[tactic(auto, unfolding(crate::specs::Pieces::next_of, crate::specs::Pieces::kept_of, crate::specs::Pieces::place_of))]
 pub fn next(place: Place, buffer: &mut [u8; 1472], piece: &[u8]) -> Step
     ensures value { result ≡ next_of place buffer.old piece.now }
     ensures buffer_after { buffer.new ≡ kept_of place buffer.old piece.now }
 {
-    advance(place, buffer, piece)
+    let p = place.sound().headed(piece);
+    p.keep(buffer, piece);
+    p.ends(p.used(piece.len()), buffer)
 }
 
 // How many bytes of the field under way were read, tag and length among them: none between two fields.
 pub fn inside(place: Place) -> usize
     ensures { result ≡ (sound_of place).past }
 {
-    sound(place).past
+    place.sound().past
 }
 
 // At the end of the input: it must not be inside a field.

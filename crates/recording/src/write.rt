@@ -11,11 +11,9 @@ use codec::time::Time;
 fn put_field(out: &mut [u8], at: usize, tag: Tag, body: &[u8]) -> Result<usize, RecordError>
     ensures { Recorded (Ok tt) out.old at (field_bytes (tag_number tag) body.now) out.new result }
 {
-    // a sum that is cut here is past any output
-    let end = at.saturating_add(3 + body.len());
-    if out.len() < end {
+    let Some(end) = codec::number::get_part(out, at, 3 + body.len()) else {
         return Err(RecordError::Small);
-    }
+    };
     out[at] = u8::from(tag);
     codec::number::put_be(out, at + 1, body.len() as u64, 2);
     codec::number::put_bytes(out, at + 3, body);

@@ -2,7 +2,9 @@
 ghost use Rattle.std.specs.Prelude.{◌≡◌, length};
 
 use codec::number::Put;
-use mirror::engine::{Counted, Engine, Outcome, Timed};
+use codec::time::Nanos;
+use framer::cause::Cause;
+use mirror::engine::{Engine, Outcome};
 use script::call::Call;
 use script::pairs::Pairs;
 
@@ -31,38 +33,50 @@ fn fresh(out: &mut [u8], at: usize) -> Made {
     answered(mirror::engine::fresh(), script::answer::done(out, at, 0))
 }
 
-pub(crate) fn done(outcome: Outcome, out: &mut [u8], at: usize) -> Made {
+// Its number, 0 for done.
+fn number<T: Drop>(answer: Result<T, Cause>) -> u8 {
+    match answer {
+        Ok(_) => 0,
+        Err(cause) => u8::from(cause),
+    }
+}
+
+pub(crate) fn done(outcome: Outcome<()>, out: &mut [u8], at: usize) -> Made {
     answered(
         outcome.engine,
-        script::answer::done(out, at, outcome.answer),
+        script::answer::done(out, at, number(outcome.answer)),
     )
 }
 
 // A report or a tick.
-pub(crate) fn timed(outcome: Timed, out: &mut [u8], at: usize) -> Made {
-    let back = outcome.back;
+pub(crate) fn timed(outcome: Outcome<Nanos>, out: &mut [u8], at: usize) -> Made {
+    let back = outcome.answer.unwrap_or(Nanos(0));
     answered(
         outcome.engine,
-        script::answer::timed(out, at, outcome.answer, back),
+        script::answer::timed(out, at, number(outcome.answer), back),
     )
 }
 
-// A count that is asked for.
-fn counted(engine: Engine, counted: Counted, out: &mut [u8], at: usize) -> Made {
+// The number of a filter that was added, or a count that was asked for.
+pub(crate) fn numbered(
+    engine: Engine,
+    answer: Result<u64, Cause>,
+    out: &mut [u8],
+    at: usize,
+) -> Made {
     answered(
         engine,
-        script::answer::numbered(out, at, counted.answer, counted.count as u64),
+        script::answer::numbered(out, at, number(answer), answer.unwrap_or(0)),
     )
 }
 
 fn take_in(engine: Engine, room: &mut [u8], frame: &mut [u8], out: &mut [u8], at: usize) -> Made {
-    let taken = engine.take(room);
-    let after = taken.engine;
-    let length = taken.length;
+    let outcome = engine.take(room);
+    let length = outcome.answer.unwrap_or(0);
     codec::number::put_bytes(frame, 0, text::part::front(room, length));
     Made {
-        engine: after,
-        put: script::answer::taken(out, at, taken.answer, length as u64, room),
+        engine: outcome.engine,
+        put: script::answer::taken(out, at, number(outcome.answer), length as u64, room),
         taken: length,
     }
 }
@@ -121,8 +135,8 @@ pub(crate) fn make(
         Call::New => fresh(out, at),
         Call::Offline => done(engine.offline(), out, at),
         Call::Failed => done(engine.failed(), out, at),
-        Call::Discards => counted(engine, engine.discards(), out, at),
-        Call::Failures => counted(engine, engine.failures(), out, at),
+        Call::Discards => numbered(engine, engine.discards().map(u64::from), out, at),
+        Call::Failures => numbered(engine, engine.failures().map(u64::from), out, at),
         Call::Take(size) => take(engine, size as usize, frame, out, at),
         Call::Tick(time) => timed(engine.tick(time), out, at),
         Call::Setup {

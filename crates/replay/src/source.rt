@@ -1,14 +1,11 @@
 // Calls of one source of the engine, but for the reports that have a payload.
 use crate::engine::Made;
-use mirror::engine::Engine;
-use mirror::source::Added;
+use mirror::engine::{Engine, Outcome};
 use script::call::Call;
 
-fn added(a: Added, out: &mut [u8], at: usize) -> Made {
-    crate::engine::answered(
-        a.engine,
-        script::answer::numbered(out, at, a.answer, a.number as u64),
-    )
+fn added(outcome: Outcome<usize>, out: &mut [u8], at: usize) -> Made {
+    let number = outcome.answer.map(|n| n as u64);
+    crate::engine::numbered(outcome.engine, number, out, at)
 }
 
 fn add(engine: Engine, call: Call, out: &mut [u8], at: usize) -> Made {

@@ -1,15 +1,15 @@
 -- How each answer reads.
-use Rattle.std.specs.Prelude.{ℕ, ◌*◌, Bool, true, false, List, [], ◌∷◌, ◌++◌, eqb}
+use Rattle.std.specs.Prelude.{ℕ, Bool, true, false, List, [], ◌∷◌, ◌++◌, Option, Some, None, Result, Ok, Err, eqb}
 use Rattle.codec.specs.Choice.{pick}
 use Rattle.codec.specs.Refusal.{number_of}
 use Rattle.codec.specs.Ident.{network_type, kind_of}
 use Rattle.codec.specs.declared.time.Time.{Time}
 use Rattle.codec.specs.declared.ident.Ident.{Ident}
-use Rattle.codec.specs.declared.item.State.{State}
 use Rattle.codec.specs.declared.item.Item.{Item}
 use Rattle.text.specs.Put.{decimal_of, hex_of}
 use Rattle.reader.specs.Answer.{judged_number, judged_header}
-use Rattle.reader.specs.declared.frame.Judged.{Judged}
+use Rattle.codec.specs.declared.header.Header.{Header}
+use Rattle.codec.specs.declared.refusal.Refusal.{Refusal}
 use Rattle.reader.specs.declared.place.Stepped.{Stepped}
 
 -- a space (32) and a number
@@ -24,9 +24,9 @@ dash = 32 ∷ 45 ∷ []
 unfoldable pub time_text : Time → List ℕ
 time_text t = field_text t.sec ++ field_text t.nano
 
-abbrev pub state_text : State → List ℕ
-state_text (State.Byte b) = field_text b
-state_text State.Absent = dash
+abbrev pub state_text : Option ℕ → List ℕ
+state_text (Some b) = field_text b
+state_text None = dash
 
 -- CHANNELS/SLOT/CYCLE
 unfoldable pub flexray_text : ℕ → ℕ → ℕ → List ℕ
@@ -58,15 +58,15 @@ item_text it n =
     ++ load_text it.carries n
 
 -- ANSWER SEQUENCE SEC NANO DATALENGTH, all 0 beside a refusal
-unfoldable pub judged_text : Judged → List ℕ
+unfoldable pub judged_text : Result Header Refusal → List ℕ
 judged_text j =
     decimal_of (judged_number j) ++ field_text (judged_header j).sequence ++ time_text (judged_header j).time ++ field_text (judged_header j).length
 
 -- an item, "0 end", or the refusal and eight times '-'
-abbrev pub stepped_text : Stepped → List ℕ
-stepped_text (Stepped.Item next time item n) = placed_text next time ++ item_text item n
-stepped_text Stepped.End = 48 ∷ 32 ∷ 101 ∷ 110 ∷ 100 ∷ []
-stepped_text (Stepped.Refused why) = decimal_of (number_of why) ++ (dash ++ dash ++ dash ++ dash ++ dash ++ dash ++ dash ++ dash)
+abbrev pub stepped_text : Result (Option Stepped) Refusal → List ℕ
+stepped_text (Ok (Some s)) = placed_text s.next s.time ++ item_text s.item s.length
+stepped_text (Ok None) = 48 ∷ 32 ∷ 101 ∷ 110 ∷ 100 ∷ []
+stepped_text (Err why) = decimal_of (number_of why) ++ (dash ++ dash ++ dash ++ dash ++ dash ++ dash ++ dash ++ dash)
 
 -- '?' (63) and the number of a line that is no call
 unfoldable pub bad_text : ℕ → List ℕ
@@ -91,7 +91,3 @@ bytes_text n bs = decimal_of n ++ (32 ∷ []) ++ hex_of bs
 -- ANSWER LENGTH BYTES
 unfoldable pub taken_text : ℕ → ℕ → List ℕ → List ℕ
 taken_text n v bs = numbered_text n v ++ (32 ∷ []) ++ hex_of bs
-
--- how many characters n bytes are
-abbrev pub hex_size : ℕ → ℕ
-hex_size n = pick (eqb n 0) 1 (2 * n)

@@ -7,7 +7,6 @@ use codec::time::Time;
 
 #[derive(Drop)]
 pub enum Call {
-    Bad,
     New,
     Offline,
     Failed,
@@ -114,69 +113,52 @@ pub enum Call {
 
 // The count of words is part of a call: a missing or an extra word makes it none.
 #[tactic(auto, unfolding(crate::specs::Call::counted_of))]
-fn counted(name: &[u8], line: &[u8]) -> Call
+fn counted(name: &[u8], line: &[u8]) -> Option<Call>
     ensures { result ≡ counted_of name.now line.now }
 {
-    let n = text::line::words(line);
-    if n == 1 {
-        return crate::short::one_word(name);
+    match text::line::words(line) {
+        1 => crate::short::one_word(name),
+        2 => crate::short::two_words(name, line),
+        3 => crate::short::three_words(name, line),
+        4 => crate::short::four_words(name, line),
+        6 => crate::long::six_words(name, line),
+        7 => crate::long::seven_words(name, line),
+        8 => crate::long::eight_words(name, line),
+        _ => None,
     }
-    if n == 2 {
-        return crate::short::two_words(name, line);
-    }
-    if n == 3 {
-        return crate::short::three_words(name, line);
-    }
-    if n == 4 {
-        return crate::short::four_words(name, line);
-    }
-    if n == 6 {
-        return crate::long::six_words(name, line);
-    }
-    if n == 7 {
-        return crate::long::seven_words(name, line);
-    }
-    if n == 8 {
-        return crate::long::eight_words(name, line);
-    }
-    Call::Bad
 }
 
 // A source is two words more; the numbers of the sources are read apart.
 #[tactic(auto, unfolding(crate::specs::Call::set_up_of))]
-fn set_up(line: &[u8]) -> Call
+fn set_up(line: &[u8]) -> Option<Call>
     ensures { result ≡ set_up_of line.now }
 {
     let n = text::line::words(line);
     if n < 4 {
-        return Call::Bad;
+        return None;
     }
-    let odd = n % 2;
-    if odd != 0 {
-        return Call::Bad;
+    if n % 2 != 0 {
+        return None;
     }
-    let Shape::Is {
+    let Shape {
         size,
         room,
         deadline,
-    } = crate::word::shape_at(line)
-    else {
-        return Call::Bad;
-    };
-    Call::Setup {
+    } = crate::word::shape_at(line)?;
+    Some(Call::Setup {
         size,
         room,
         deadline,
-    }
+    })
 }
 
+// Nothing where the line is no call.
 #[tactic(auto, unfolding(crate::specs::Call::call_of))]
-pub fn parse(line: &[u8]) -> Call
+pub fn parse(line: &[u8]) -> Option<Call>
     ensures { result ≡ call_of line.now }
 {
-    let name = text::line::word(line, 0);
-    if text::line::same(name, b"setup") {
-        return set_up(line);
+    match text::line::word(line, 0) {
+        b"setup" => set_up(line),
+        name => counted(name, line),
     }
-    counted(name, line)
 }

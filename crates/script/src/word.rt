@@ -1,125 +1,115 @@
-// The words of a line as numbers of their widths.
+// The words of a line as numbers of their widths, and those that stand together in several lines.
 ghost use Rattle.std.specs.Prelude.{◌≡◌};
-ghost use Rattle.script.specs.Word.{narrow_of, wide_at, narrow_at, flag_at, stamp_at, shape_at, bounds_at};
+ghost use Rattle.script.specs.Word.{narrow_of, wide_at, narrow_at, flag_at, stamp_at, slot_at, shape_at, bounds_at};
 
 use codec::time::Time;
-use text::number::Number;
 
-#[derive(Drop)]
-pub enum Narrow {
-    Is(u32),
-    Bad,
+// Every report starts with its source and its time.
+#[derive(Clone, Copy)]
+pub(crate) struct Stamp {
+    pub(crate) source: u64,
+    pub(crate) time: Time,
 }
 
-#[derive(Drop)]
-pub enum Flag {
-    Is(bool),
-    Bad,
+// Where a FlexRay frame stands.
+#[derive(Clone, Copy)]
+pub(crate) struct Slot {
+    pub(crate) channels: u32,
+    pub(crate) slot: u32,
+    pub(crate) cycle: u32,
 }
 
-#[derive(Drop)]
-pub enum Stamp {
-    Is { source: u64, time: Time },
-    Bad,
-}
-
-#[derive(Drop)]
-pub enum Shape {
-    Is { size: u64, room: u64, deadline: u64 },
-    Bad,
+// What setup and switch say of the frames.
+#[derive(Clone, Copy)]
+pub(crate) struct Shape {
+    pub(crate) size: u64,
+    pub(crate) room: u64,
+    pub(crate) deadline: u64,
 }
 
 // The two numbers of a filter: a mask and its code, or a range.
-#[derive(Drop)]
-pub enum Bounds {
-    Is { source: u64, a: u32, b: u32 },
-    Bad,
+#[derive(Clone, Copy)]
+pub(crate) struct Bounds {
+    pub(crate) source: u64,
+    pub(crate) a: u32,
+    pub(crate) b: u32,
 }
 
 #[tactic(auto, unfolding(crate::specs::Word::narrow_of))]
-pub fn narrow_of(word: &[u8]) -> Narrow
+pub(crate) fn narrow_of(word: &[u8]) -> Option<u32>
     ensures { result ≡ narrow_of word.now }
 {
-    let Number::Is(v) = text::number::read(word, 4294967295) else {
-        return Narrow::Bad;
-    };
-    Narrow::Is(v as u32)
+    let v = text::number::read(word, u64::from(u32::MAX))?;
+    Some(v as u32)
 }
 
 #[tactic(auto, unfolding(crate::specs::Word::wide_at))]
-pub fn wide_at(line: &[u8], k: usize) -> Number
+pub(crate) fn wide_at(line: &[u8], k: usize) -> Option<u64>
     ensures { result ≡ wide_at line.now k }
 {
-    text::number::read(text::line::word(line, k), 18446744073709551615)
+    text::number::read(text::line::word(line, k), u64::MAX)
 }
 
 #[tactic(auto, unfolding(crate::specs::Word::narrow_at))]
-pub fn narrow_at(line: &[u8], k: usize) -> Narrow
+pub(crate) fn narrow_at(line: &[u8], k: usize) -> Option<u32>
     ensures { result ≡ narrow_at line.now k }
 {
     narrow_of(text::line::word(line, k))
 }
 
 #[tactic(auto, unfolding(crate::specs::Word::flag_at))]
-pub fn flag_at(line: &[u8], k: usize) -> Flag
+pub(crate) fn flag_at(line: &[u8], k: usize) -> Option<bool>
     ensures { result ≡ flag_at line.now k }
 {
-    let Number::Is(v) = text::number::read(text::line::word(line, k), 1) else {
-        return Flag::Bad;
-    };
-    Flag::Is(v == 1)
+    let v = text::number::read(text::line::word(line, k), 1)?;
+    Some(v == 1)
 }
 
-// Every report starts with its source and its time.
 #[tactic(auto, unfolding(crate::specs::Word::stamp_at))]
-pub fn stamp_at(line: &[u8]) -> Stamp
+pub(crate) fn stamp_at(line: &[u8]) -> Option<Stamp>
     ensures { result ≡ stamp_at line.now }
 {
-    let Number::Is(source) = wide_at(line, 1) else {
-        return Stamp::Bad;
-    };
-    let Number::Is(sec) = wide_at(line, 2) else {
-        return Stamp::Bad;
-    };
-    let Narrow::Is(nano) = narrow_at(line, 3) else {
-        return Stamp::Bad;
-    };
+    let source = wide_at(line, 1)?;
+    let sec = wide_at(line, 2)?;
+    let nano = narrow_at(line, 3)?;
     let time = Time { sec, nano };
-    Stamp::Is { source, time }
+    Some(Stamp { source, time })
+}
+
+#[tactic(auto, unfolding(crate::specs::Word::slot_at))]
+pub(crate) fn slot_at(line: &[u8]) -> Option<Slot>
+    ensures { result ≡ slot_at line.now }
+{
+    let channels = narrow_at(line, 4)?;
+    let slot = narrow_at(line, 5)?;
+    let cycle = narrow_at(line, 6)?;
+    Some(Slot {
+        channels,
+        slot,
+        cycle,
+    })
 }
 
 #[tactic(auto, unfolding(crate::specs::Word::shape_at))]
-pub fn shape_at(line: &[u8]) -> Shape
+pub(crate) fn shape_at(line: &[u8]) -> Option<Shape>
     ensures { result ≡ shape_at line.now }
 {
-    let Number::Is(size) = wide_at(line, 1) else {
-        return Shape::Bad;
-    };
-    let Number::Is(room) = wide_at(line, 2) else {
-        return Shape::Bad;
-    };
-    let Number::Is(deadline) = wide_at(line, 3) else {
-        return Shape::Bad;
-    };
-    Shape::Is {
+    let size = wide_at(line, 1)?;
+    let room = wide_at(line, 2)?;
+    let deadline = wide_at(line, 3)?;
+    Some(Shape {
         size,
         room,
         deadline,
-    }
+    })
 }
 
 #[tactic(auto, unfolding(crate::specs::Word::bounds_at))]
-pub fn bounds_at(line: &[u8]) -> Bounds
+pub(crate) fn bounds_at(line: &[u8]) -> Option<Bounds>
     ensures { result ≡ bounds_at line.now }
 {
-    let Number::Is(source) = wide_at(line, 1) else {
-        return Bounds::Bad;
-    };
-    let Narrow::Is(a) = narrow_at(line, 2) else {
-        return Bounds::Bad;
-    };
-    let Narrow::Is(b) = narrow_at(line, 3) else {
-        return Bounds::Bad;
-    };
-    Bounds::Is { source, a, b }
+    let source = wide_at(line, 1)?;
+    let a = narrow_at(line, 2)?;
+    let b = narrow_at(line, 3)?;
+    Some(Bounds { source, a, b })
 }

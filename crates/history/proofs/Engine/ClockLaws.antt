@@ -1,7 +1,6 @@
 -- What a report or a tick tells of the clock is how far the ledger's frame being filled is ahead, as the call found it.
 use Prim.Native.Nat.{ℕ}
 use mathlib.Core.Path.{◌≡◌, refl, ap}
-use mathlib.Core.Bool.{Bool, true, false}
 use mathlib.Core.List.{List, [], ◌∷◌, ◌++◌}
 use lib.Dec.{eqb}
 use Rattle.codec.specs.Choice.{pick}
@@ -11,12 +10,17 @@ use Rattle.codec.proofs.Opened.{never}
 use Rattle.framer.specs.Meter.{back_for}
 use Rattle.bus.specs.Report.{can_report, lin_report, flexray_report, frame_report, conflict_report, error_report}
 use Rattle.bus.specs.declared.report.Report.{Report}
-use Rattle.mirror.specs.Engine.{timed}
+use native.Mathlib.Omega.{arith}
+use borrow.Author.Tests.{ne_eqb}
+use Rattle.std.specs.Prelude.{Result, Ok, Err}
+use Rattle.framer.specs.Cause.{number_of, answer_of}
+use Rattle.framer.specs.declared.cause.Cause.{Cause}
+use Rattle.framer.proofs.FramerLaws.{caused}
+use Rattle.mirror.specs.Engine.{answered}
 use Rattle.mirror.specs.Report.{report_of}
 use Rattle.mirror.specs.Tick.{tick_of}
-use Rattle.mirror.specs.Call.{Call, step_of, run_of}
+use Rattle.mirror.specs.Call.{Call, beside, step_of, run_of}
 use Rattle.mirror.specs.declared.engine.Engine.{Engine}
-use Rattle.mirror.specs.declared.engine.Outcome.{Outcome}
 use Rattle.history.specs.Ledger.{Limits, Ledger}
 use Rattle.history.specs.Deed.{Deed, deeds_of, done}
 use Rattle.history.specs.Clock.{behind, tells_by, says_by}
@@ -29,25 +33,22 @@ abbrev one : ℕ → List ℕ
 one n = n ∷ []
 
 -- the number stands beside an answer of 0, and nothing beside another
-number_is : (o : Outcome) (back : Nanos) (n : ℕ) → back.0 ≡ n → (timed o back).back.0 ≡ pick (eqb (timed o back).answer 0) n 0
-unfolding timed
-number_is o back n q = go (eqb o.answer 0)
-  where
-    go : (b : Bool) → (pick {A = Nanos} b back (record { 0 = 0 })).0 ≡ pick b n 0
-    go true = q
-    go false = refl
+number_is : (e after : Engine) (r : Result Unit Cause) (back : Nanos) (n : ℕ) → back.0 ≡ n
+    → beside (λ (b : Nanos). b.0) (answered e r back after).answer ≡ pick (eqb (answer_of (answered e r back after).answer) 0) n 0
+number_is e after (Ok u) back n q = q
+number_is e after (Err c) back n q = rw (ne_eqb (number_of c) 0 (λ z. let y : ⊥ = omega (arith, caused c) in y))
 
 module _ (c : Limits) (e : Engine) (l : Ledger) (t : Tied c e.framer l) where
   back_is : (x : Time) → (back_for e.framer.meter x).0 ≡ behind l x
   back_is x = rw t.tie.meter (back_same c l x)
 
-  report_tells : (r : Report) (payload : List ℕ) → (report_of e r payload).back.0 ≡ pick (eqb (report_of e r payload).answer 0) (behind l r.time) 0
+  report_tells : (r : Report) (payload : List ℕ) → beside (λ (b : Nanos). b.0) (report_of e r payload).answer ≡ pick (eqb (answer_of (report_of e r payload).answer) 0) (behind l r.time) 0
   unfolding report_of
-  report_tells r payload = number_is _ _ _ (back_is r.time)
+  report_tells r payload = number_is _ _ _ _ _ (back_is r.time)
 
-  tick_tells : (x : Time) → (tick_of e x).back.0 ≡ pick (eqb (tick_of e x).answer 0) (behind l x) 0
+  tick_tells : (x : Time) → beside (λ (b : Nanos). b.0) (tick_of e x).answer ≡ pick (eqb (answer_of (tick_of e x).answer) 0) (behind l x) 0
   unfolding tick_of
-  tick_tells x = number_is _ _ _ (back_is x)
+  tick_tells x = number_is _ _ _ _ _ (back_is x)
 
   pub tells-by : (x : Call) → says_by (deed_of e x) ≡ tells_by l (deed_of e x)
   unfolding says_by tells_by done can_report lin_report flexray_report error_report

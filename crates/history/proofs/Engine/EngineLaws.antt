@@ -1,22 +1,23 @@
 -- Every accepted call does to the engine's accounts and framer what it comes to in the ledger.
 use Prim.Native.Nat.{ℕ, ◌≤◌, ◌<◌}
 use mathlib.Core.Path.{◌≡◌, refl, ap, ◌∙◌}
-use mathlib.Core.Bool.{Bool, true, false, not}
+use mathlib.Core.Bool.{Bool, true, false}
 use mathlib.Core.List.{List, [], ◌∷◌, ◌++◌, map}
 use native.Mathlib.Omega.{arith}
 use lib.ListN.{length, length-set}
-use lib.Dec.{leb, eqb}
-use borrow.Author.Tests.{eqb-true, eqb-false, leb-false, not-false}
+use lib.Dec.{ltb, eqb}
+use borrow.Author.Tests.{eqb-true, eqb-false, ltb-true}
+use Rattle.std.specs.Prelude.{Result, Ok}
 use Rattle.codec.specs.Number.{Bytes}
 use Rattle.codec.specs.Time.{time_ok}
 use Rattle.codec.specs.declared.time.Time.{Time}
 use Rattle.codec.specs.declared.ident.Ident.{Ident}
-use Rattle.codec.proofs.Opened as Opened
 use Rattle.framer.specs.Framer.{add, take_of}
 use Rattle.framer.specs.declared.framer.Framer.{Framer}
 use Rattle.framer.specs.declared.offer.Offer.{Offer}
-use Rattle.framer.proofs.FramerLaws.{sounds}
-use Rattle.bus.specs.Source.{add_cause}
+use Rattle.framer.proofs.FramerLaws.{sounds, passed-guard}
+use Rattle.framer.specs.Cause.{answer_of}
+use Rattle.framer.specs.declared.cause.Cause.{Cause}
 use Rattle.bus.specs.Update.{can_update, lin_update, flexray_update}
 use Rattle.bus.specs.Report.{can_report, lin_report, flexray_report, frame_report, conflict_report, error_report}
 use Rattle.bus.specs.declared.source.Source.{Source}
@@ -24,12 +25,12 @@ use Rattle.bus.specs.declared.update.Update.{Update}
 use Rattle.bus.specs.declared.report.Report.{Report}
 use Rattle.bus.specs.declared.filter.Addition.{Addition}
 use Rattle.bus.proofs.BusLaws.{cause_passed, update_passed, add-passed}
-use Rattle.mirror.specs.Engine.{cause_of, timed, source_cause, index_of, source_at, with_source}
+use Rattle.mirror.specs.Engine.{source_cause, index_of, source_at, with_source}
 use Rattle.mirror.specs.Source.{start_of, stop_of, update_of, add_of, remove_of}
 use Rattle.mirror.specs.Report.{reported, report_of}
-use Rattle.mirror.specs.Tick.{ticked, tick_of}
+use Rattle.mirror.specs.Tick.{ticked, tick_cause, tick_of}
 use Rattle.mirror.specs.Take.{taken_of}
-use Rattle.mirror.specs.Failed.{failed_of}
+use Rattle.mirror.specs.Failed.{failed_cause, failed_of}
 use Rattle.mirror.specs.Call.{Call, step_of}
 use Rattle.mirror.specs.declared.engine.Engine.{Engine}
 use Rattle.mirror.proofs.Kept.{metered, kept}
@@ -41,7 +42,6 @@ use Rattle.history.specs.Ledger as Rules
 use Rattle.history.specs.Deed.{ops_of}
 use Rattle.history.specs.History.{Plain, All}
 use Rattle.history.proofs.Ground.Machine.{run_w, FitOp}
-use Rattle.history.proofs.Ground.TestLaws.{wrong}
 use Rattle.history.proofs.Ground.ListLaws.{all_append, all_set}
 use Rattle.history.proofs.Framer.OutputLaws.{taking}
 use Rattle.history.proofs.Sources.SourceLaws.{account_of, HealthyS, Brings, started-account, started_healthy, stopped-account, stopped_healthy, updated-account, updated_healthy, added_account, removed_account, healthy_by, brings_can, brings_lin, brings_flexray}
@@ -79,27 +79,27 @@ module _ (e : Engine) (s : Steady e) where
   quiet_does k x f h a p = change_does k x e.framer f [] h a p refl (λ c q. tt)
 
   -- starting, stopping, state updates
-  there_is : (k rest : ℕ) → source_cause e k rest ≡ 0 → k < e.count
+  there_is : (k : ℕ) (rest : Result Unit Cause) → source_cause e k rest ≡ Ok tt → k < e.count
   unfolding source_cause
-  there_is k rest z = Opened.passed (leb e.count k) 2 rest z (wrong 1) (λ q y. leb-false e.count k q)
+  there_is k rest z = ltb-true k e.count (passed-guard (ltb k e.count) Cause.NoSource rest tt z).0
 
-  start_does : (k : ℕ) → (start_of e k).answer ≡ 0 → Does e (changed (book_of e) k started_account) [] (start_of e k).engine
+  start_does : (k : ℕ) → answer_of (start_of e k).answer ≡ 0 → Does e (changed (book_of e) k started_account) [] (start_of e k).engine
   unfolding start_of
   start_does k z =
-      let h = accepted e _ _ z in
-      rw h.1 (quiet_does k _ started_account (there_is k 0 h.0) (started-account (source_at e k)) (started_healthy (source_at e k) (healthy_at e s k)))
+      let h = accepted e _ _ _ z in
+      rw h.1 (quiet_does k _ started_account (there_is k (Ok tt) h.0) (started-account (source_at e k)) (started_healthy (source_at e k) (healthy_at e s k)))
 
-  stop_does : (k : ℕ) → (stop_of e k).answer ≡ 0 → Does e (changed (book_of e) k stopped_account) [] (stop_of e k).engine
+  stop_does : (k : ℕ) → answer_of (stop_of e k).answer ≡ 0 → Does e (changed (book_of e) k stopped_account) [] (stop_of e k).engine
   unfolding stop_of
   stop_does k z =
-      let h = accepted e _ _ z in
-      rw h.1 (quiet_does k _ stopped_account (there_is k 0 h.0) (stopped-account (source_at e k)) (stopped_healthy (source_at e k) (healthy_at e s k)))
+      let h = accepted e _ _ _ z in
+      rw h.1 (quiet_does k _ stopped_account (there_is k (Ok tt) h.0) (stopped-account (source_at e k)) (stopped_healthy (source_at e k) (healthy_at e s k)))
 
-  update_does : (byte : ℕ) (u : Update) → (u.good ≡ true → Brings byte u) → (update_of e u).answer ≡ 0
+  update_does : (byte : ℕ) (u : Update) → (u.good ≡ true → Brings byte u) → answer_of (update_of e u).answer ≡ 0
       → Does e (changed (book_of e) u.source (updated_account byte)) [] (update_of e u).engine
   unfolding update_of
   update_does byte u g z =
-      let h = accepted e _ _ z in
+      let h = accepted e _ _ _ z in
       let x : Source = source_at e u.source in
       let p = update_passed e.count x u h.0 in
       let b = g p.good in
@@ -110,30 +110,27 @@ module _ (e : Engine) (s : Steady e) where
   filter_does : (k : ℕ) (x : Source) → k < e.count → account_of x ≡ account_of (source_at e k) → Does e (book_of e) [] (with_source e k x e.framer)
   filter_does k x h a = rw (same_book (book_of e) k) at (quiet_does k x (λ a. a) h a (healthy_by (source_at e k) x a (healthy_at e s k)))
 
-  remove_does : (k number : ℕ) → (remove_of e k number).answer ≡ 0 → Does e (book_of e) [] (remove_of e k number).engine
+  remove_does : (k number : ℕ) → answer_of (remove_of e k number).answer ≡ 0 → Does e (book_of e) [] (remove_of e k number).engine
   unfolding remove_of
   remove_does k number z =
-      let h = accepted e _ _ z in
+      let h = accepted e _ _ _ z in
       rw h.1 (filter_does k _ (there_is k _ h.0) (removed_account (source_at e k) number))
 
-  add_does : (a : Addition) → (add_of e a).answer ≡ 0 → Does e (book_of e) [] (add_of e a).engine
-  unfolding add_of cause_of
-  add_does a z = go (eqb (add_cause e.count (source_at e a.source) a) 0) refl
-    where
-      go : (b : Bool) → eqb (add_cause e.count (source_at e a.source) a) 0 ≡ b → Does e (book_of e) [] (add_of e a).engine
-      go true q =
-          let p = add-passed e.count (source_at e a.source) a (eqb-true _ 0 q) in
-          rw (s.sound, q) (filter_does a.source _ p.source (added_account (source_at e a.source) a.filter))
-      go false q = let y : add_cause e.count (source_at e a.source) a ≡ 0 = rw (s.sound, q) at z in absurd (eqb-false _ 0 q y)
+  add_does : (a : Addition) → answer_of (add_of e a).answer ≡ 0 → Does e (book_of e) [] (add_of e a).engine
+  unfolding add_of
+  add_does a z =
+      let h = accepted e _ _ _ z in
+      let p = add-passed e.count (source_at e a.source) a h.0 in
+      rw h.1 (filter_does a.source _ p.source (added_account (source_at e a.source) a.filter))
 
   -- a report gives one event, which its checks make fit
   report_does : (b : Bound) (id : Ident) (r : Report) (payload : List ℕ) → Bytes payload → (r.ranged ≡ true → Means b id r (length payload))
-      → (report_of e r payload).answer ≡ 0
+      → answer_of (report_of e r payload).answer ≡ 0
       → Does e (changed (book_of e) r.source (reported_account b))
       (Rules.event (report_event b (account_at (book_of e) r.source) r.time id r.carries payload) ∷ []) (report_of e r payload).engine
-  unfolding report_of timed reported report_event
+  unfolding report_of reported report_event
   report_does b id r payload bytes g z =
-      let h = accepted e _ _ z in
+      let h = accepted e _ _ _ z in
       let x : Source = source_at e r.source in
       let p = cause_passed e.count e.framer.meter.size x r (length payload) h.0 in
       let m = g p.ranged in
@@ -144,13 +141,13 @@ module _ (e : Engine) (s : Steady e) where
       (λ c q. (report_fit b id x r payload m k c e.count e.framer.meter.size q p bytes, tt)))
 
   -- a tick gives the state items called for, and then looks at the deadline
-  tick_does : (t : Time) → (tick_of e t).answer ≡ 0
+  tick_does : (t : Time) → answer_of (tick_of e t).answer ≡ 0
       → Does e (map ticked_account (book_of e)) (map Rules.event (state_events t (book_of e)) ++ (Rules.deadline t ∷ [])) (tick_of e t).engine
-  unfolding tick_of timed ticked
+  unfolding tick_of tick_cause ticked
   tick_does t z =
-      let h = accepted e _ _ z in
+      let h = accepted e _ _ _ z in
       let least : 32 ≤ e.framer.meter.size = (sounds e.framer.meter (metered e s.sound)).size_least in
-      let on-time = Opened.passed (not (time_ok t)) 7 0 h.0 (wrong 6) (λ q y. not-false (time_ok t) q) in
+      let on-time = (passed-guard (time_ok t) Cause.BadTime (Ok tt) tt h.0).0 in
       rw h.1 (record {
         book = ticked_book e s t;
         framer = ticked_framer e s t;
@@ -162,10 +159,10 @@ module _ (e : Engine) (s : Steady e) where
       })
 
   -- a take, a failed send and the questions for the counts leave the accounts as they are
-  take_does : (n : ℕ) → (taken_of e n).answer ≡ 0 → Does e (book_of e) (Rules.take ∷ []) (taken_of e n).engine
+  take_does : (n : ℕ) → answer_of (taken_of e n).answer ≡ 0 → Does e (book_of e) (Rules.take ∷ []) (taken_of e n).engine
   unfolding taken_of book_of
   take_does n z =
-      let y : (take_of e.framer n).answer ≡ 0 = rw s.sound at z in
+      let y : answer_of (take_of e.framer n).answer ≡ 0 = rw s.sound at z in
       rw s.sound (record {
         book = refl;
         framer = (taking e.framer n y).framer;
@@ -176,10 +173,10 @@ module _ (e : Engine) (s : Steady e) where
       })
 
   -- a failed send
-  fail_does : (failed_of e).answer ≡ 0 → Does e (book_of e) (Rules.fail ∷ []) (failed_of e).engine
-  unfolding failed_of book_of
+  fail_does : answer_of (failed_of e).answer ≡ 0 → Does e (book_of e) (Rules.fail ∷ []) (failed_of e).engine
+  unfolding failed_of failed_cause book_of
   fail_does z =
-      let h = accepted e _ _ z in
+      let h = accepted e _ _ _ z in
       rw h.1 (record {
         book = refl;
         framer = refl;

@@ -8,8 +8,11 @@ use lib.Dec.{eqb}
 use borrow.Author.Tests.{eqb-true}
 use Rattle.codec.specs.Choice.{pick}
 use Rattle.codec.specs.declared.time.Time.{Time}
+use Rattle.std.specs.Prelude.{Ok}
+use Rattle.framer.specs.Cause.{answer_of, guard}
+use Rattle.framer.specs.declared.cause.Cause.{Cause}
 use Rattle.mirror.specs.Engine.{sound_of, answered, cause_of}
-use Rattle.mirror.specs.Failed.{failed_of}
+use Rattle.mirror.specs.Failed.{failed_cause, failed_of}
 use Rattle.mirror.specs.Call.{Call, step_of}
 use Rattle.mirror.specs.declared.engine.Engine.{Engine}
 use Rattle.history.specs.Meaning.{Meaning, starts, stops, updates, reports, ticks, takes, fails, switches, drops, nothing, meaning}
@@ -29,10 +32,10 @@ use Rattle.history.proofs.Engine.RunLaws.{deed_of, ops_by, stepped, ops_more}
 -- what it is answered
 pub fails_by : (c : Limits) (e : Engine) (l : Ledger) → sound_of e ≡ true → Tied c e.framer l
     → (step_of e Call.failed).said.answer ≡ pick (is_out l.sends) 0 17
-unfolding failed_of answered cause_of
+unfolding failed_of failed_cause cause_of
 fails_by c e l s t = rw s (go e.framer.meter.out _) ∙ ap (λ (b : Bool). pick b 0 17) (out_is c e.framer l t)
   where
-    go : (b : Bool) (after : Engine) → (answered e (pick b 0 17) after).answer ≡ pick b 0 17
+    go : (b : Bool) (after : Engine) → answer_of (answered {A = Unit} e (guard {A = Unit} b Cause.NothingOut (Ok tt)) tt after).answer ≡ pick b 0 17
     go true after = refl
     go false after = refl
 

@@ -1,16 +1,16 @@
 -- An accepted take: the oldest waiting frame leaves the framer, and stands at the front of the output.
 use Prim.Native.Nat.{ℕ, ◌+◌, ◌≤◌}
 use mathlib.Core.Path.{◌≡◌, refl, ◌∙◌, ap}
-use mathlib.Core.Bool.{Bool, true, false}
+use mathlib.Core.Bool.{true}
 use mathlib.Core.List.{List, [], ◌∷◌, map}
 use native.Mathlib.Omega.{arith}
 use lib.ListN.{length, take, drop}
 use lib.Seq.{take_at}
-use lib.Dec.{ltb, eqb}
-use borrow.Author.Tests.{eqb-false}
-use Rattle.framer.specs.Meter.{sound_meter}
+use Rattle.std.specs.Prelude.{Ok}
+use Rattle.framer.specs.Cause.{answer_of}
+use Rattle.framer.proofs.FramerLaws.{answered_0, readied}
 use Rattle.framer.specs.Queue.{length_at, frame_at}
-use Rattle.framer.specs.Framer.{take_of, out_of}
+use Rattle.framer.specs.Framer.{ready_of, take_of, out_of}
 use Rattle.framer.specs.declared.framer.Framer.{Framer}
 use Rattle.mirror.specs.Engine.{sound_of}
 use Rattle.mirror.specs.Take.{taken_of, output_of}
@@ -21,7 +21,6 @@ use Rattle.history.specs.Ledger.{Limits, Frame, Ledger, waiting_in}
 use Rattle.history.specs.Ledger as Rules
 use Rattle.history.specs.History.{frame_out}
 use Rattle.history.proofs.Ground.Machine.{laid, step_w}
-use Rattle.history.proofs.Ground.TestLaws.{wrong}
 use Rattle.history.proofs.Framer.SlotLaws.{frame_length}
 use Rattle.history.proofs.Framer.MeterLaws.{meter_of}
 use Rattle.history.proofs.Framer.SimLaws.{Tied, slots_are}
@@ -29,18 +28,15 @@ use Rattle.history.proofs.Framer.SimLaws.{Tied, slots_are}
 -- what a framer's take that is answered 0 does
 pub record Takes (w : Framer) (n : ℕ) : Type 0 where
   pub waits : w.meter.waiting ≡ 0 → ⊥
-  pub number : (take_of w n).length ≡ length_at w.queue w.meter.first
+  pub answer : (take_of w n).answer ≡ Ok (length_at w.queue w.meter.first)
   pub framer : (take_of w n).framer ≡ step_w w Rules.take
 
-pub taking : (w : Framer) (n : ℕ) → (take_of w n).answer ≡ 0 → Takes w n
+pub taking : (w : Framer) (n : ℕ) → answer_of (take_of w n).answer ≡ 0 → Takes w n
 unfolding take_of
-taking w n z = go (sound_meter w.meter) (eqb w.meter.waiting 0) (ltb n (length_at w.queue w.meter.first)) refl refl refl
-  where
-    go : (a b d : Bool) → sound_meter w.meter ≡ a → eqb w.meter.waiting 0 ≡ b → ltb n (length_at w.queue w.meter.first) ≡ d → Takes w n
-    go false b d p q r = wrong 18 (rw p at z)
-    go true true d p q r = wrong 12 (rw (p, q) at z)
-    go true false true p q r = wrong 11 (rw (p, q, r) at z)
-    go true false false p q r = record { waits = eqb-false w.meter.waiting 0 q; number = rw (p, q, r); framer = rw (p, q, r) }
+taking w n z =
+    let k = answered_0 (ready_of w n) z in
+    let y = readied w n k.0 k.1 in
+    record { waits = y.waits; answer = k.1 ∙ ap Ok y.long; framer = rw k.1 }
 
 -- the slot of the oldest waiting frame
 module _ (c : Limits) (w : Framer) (l : Ledger) (t : Tied c w l) where
@@ -55,12 +51,12 @@ module _ (c : Limits) (w : Framer) (l : Ledger) (t : Tied c w l) where
 
 pub take_out : (c : Limits) (e : Engine) (l : Ledger) (out : List ℕ) → Tied c e.framer l → sound_of e ≡ true → (step_of e (Call.take out)).said.answer ≡ 0
     → frame_out takes (step_of e (Call.take out)).said ≡ map laid (take 1 (waiting_in l))
-unfolding taken_of output_of out_of
+unfolding taken_of output_of out_of take_of
 take_out c e l out t s z =
     let w : Framer = e.framer in
-    let y : (take_of w (length out)).answer ≡ 0 = rw s at z in
+    let y : answer_of (take_of w (length out)).answer ≡ 0 = rw s at z in
     let k = taking w (length out) y in
     let bs : List ℕ = frame_at w.queue w.meter.first in
     let n : length bs ≡ length_at w.queue w.meter.first = frame_length w.queue w.meter.first t.tie.store (first_small c w l t) in
-    rw (s, y, k.number)
+    rw (s, k.answer)
     (ap (λ (x : List ℕ). x ∷ []) (take_at bs (drop (0 + length bs) out) (length_at w.queue w.meter.first) n) ∙ oldest c w l t (waiting_in l) refl k.waits)

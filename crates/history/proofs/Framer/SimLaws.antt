@@ -7,17 +7,17 @@ use native.Mathlib.Omega.{arith}
 use native.Mathlib.Numerals.{add-one}
 use lib.ListN.{length, take, drop, length-replicate}
 use lib.Dec.{eqb}
-use borrow.Author.Tests.{ltb-true, le-ltb}
+use borrow.Author.Tests.{ltb-true}
 use Rattle.codec.specs.Choice.{pick}
 use Rattle.codec.specs.Time.{ns, overdue_of}
 use Rattle.codec.specs.declared.time.Time.{Time}
 use Rattle.framer.specs.Meter.{limits_ok, empty_meter, sound_meter, Sound, closes_for, slot_of, closed_meter, taken_meter, failed_meter}
-use Rattle.framer.specs.Queue.{empty_queue, queued, length_at}
-use Rattle.framer.specs.Framer.{empty_framer, closed, placed, added, add, passed, take_of, failed}
+use Rattle.framer.specs.Queue.{empty_queue, queued}
+use Rattle.framer.specs.Framer.{empty_framer, closed, placed, added, add, passed, failed}
 use Rattle.framer.specs.declared.meter.Meter.{Meter}
 use Rattle.framer.specs.declared.framer.Framer.{Framer}
-use Rattle.framer.proofs.FramerLaws.{sounds, add_is}
-use Rattle.framer.proofs.KeptLaws.{kept_empty, kept_add, kept_pass, kept_take, kept_failed}
+use Rattle.framer.proofs.FramerLaws.{sounds, sound_flag, add_is}
+use Rattle.framer.proofs.KeptLaws.{kept_empty, kept_add, kept_pass, kept_taken, kept_failed}
 use Rattle.history.specs.Account.{Event}
 use Rattle.history.specs.Ledger.{Limits, Frame, Ledger, Op, total, is_empty, waiting_in, has_room, closes_before, overdue, close, begin, enter, mirrored, taken, is_out, empty_ledger, discard_count, failure_count, step_l, run_l}
 use Rattle.history.specs.Ledger as Rules
@@ -203,17 +203,6 @@ module _ (c : Limits) (w : Framer) (l : Ledger) (t : Tied c w l) where
       go (one_out bs e) = rw (failed-one l bs e) (fail_one_tie bs e)
 
 -- each operation keeps the tie
-taken_sound : (w : Framer) → sound_meter w.meter ≡ true → sound_meter (taken_meter w.meter) ≡ true
-unfolding taken_meter take_of
-taken_sound w s = go (eqb w.meter.waiting 0) refl
-  where
-    go : (b : Bool) → eqb w.meter.waiting 0 ≡ b → sound_meter (taken_meter w.meter) ≡ true
-    go true e = rw e s
-    go false e =
-        let n : ℕ = length_at w.queue w.meter.first in
-        let q : (take_of w n).framer.meter ≡ taken_meter w.meter = rw (s, e, le-ltb n n (omega arith)) in
-        ap sound_meter (sym q) ∙ kept_take w n s
-
 pub step_tied : (c : Limits) (w : Framer) (l : Ledger) (op : Op) → Tied c w l → FitOp c op → Tied c (step_w w op) (step_l c l op)
 unfolding offer_in meter_of
 step_tied c w l (Rules.event ev) t f = record {
@@ -224,7 +213,7 @@ step_tied c w l (Rules.event ev) t f = record {
 step_tied c w l (Rules.deadline x) t f =
     record { tie = deadline_tie c w l t x; sound = kept_pass w x t.sound; ledger = step_sound c l (Rules.deadline x) t.ledger }
 step_tied c w l Rules.take t f =
-    record { tie = take_tie c w l t; sound = taken_sound w t.sound; ledger = step_sound c l Rules.take t.ledger }
+    record { tie = take_tie c w l t; sound = sound_flag (kept_taken w.meter (sounds w.meter t.sound)); ledger = step_sound c l Rules.take t.ledger }
 step_tied c w l Rules.fail t f =
     record { tie = fail_tie c w l t; sound = kept_failed w t.sound; ledger = step_sound c l Rules.fail t.ledger }
 

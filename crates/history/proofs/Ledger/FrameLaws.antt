@@ -12,7 +12,7 @@ use Rattle.codec.specs.Time.{ns, time_ok}
 use Rattle.codec.specs.Item.{encode}
 use Rattle.codec.specs.Layout.{StateFits, Valid, AllValid, Head, body}
 use Rattle.codec.specs.declared.time.Time.{Time}
-use Rattle.codec.specs.declared.item.State.TheVariants as State
+use Rattle.std.specs.Prelude.{Some, None}
 use Rattle.codec.proofs.BoolLaws.{and_l, and_r}
 use Rattle.codec.proofs.ItemLaws.{encode-length}
 use Rattle.history.specs.Account.{Event}
@@ -83,7 +83,7 @@ state_fits : (x : Line) → x.event.state < 128 → StateFits (state_in x)
 unfolding state_in
 state_fits x h = go x.lost x.event.due x.event.state h
   where
-    go : (a b : Bool) (n : ℕ) → n < 128 → StateFits (pick a (State.Byte (n + 128)) (pick b (State.Byte n) State.Absent))
+    go : (a b : Bool) (n : ℕ) → n < 128 → StateFits (pick a (Some (n + 128)) (pick b (Some n) None))
     go true b n k = omega arith
     go false true n k = omega arith
     go false false n k = tt

@@ -7,7 +7,7 @@ use mathlib.Core.List.{List, [], ◌∷◌, ◌++◌, map-append, append_assoc, 
 use native.Mathlib.Omega.{arith}
 use borrow.Author.Tests.{le-leb, lt-leb}
 use Rattle.codec.specs.Choice.{pick, bit}
-use Rattle.codec.specs.declared.item.State.TheVariants as State
+use Rattle.std.specs.Prelude.{Some, None}
 use Rattle.codec.proofs.BoolLaws.{or_false, or_true}
 use Rattle.history.specs.Account.{Event}
 use Rattle.history.specs.Ledger.{Limits, Line, Closed, Note, Ledger, empty_ledger, Op, state_in, item_in, failures_in, has_room, line_for, close, enter, run_l, lines_in, closed_by, filling_by, made_in, is_discard, is_failure, tally}
@@ -24,7 +24,7 @@ lost_shown : (x : Line) → x.event.state < 128 → lost_bit (item_in x).state �
 unfolding item_in state_in
 lost_shown x h = go x.lost x.event.due x.event.state h
   where
-    go : (a b : Bool) (n : ℕ) → n < 128 → lost_bit (pick a (State.Byte (n + 128)) (pick b (State.Byte n) State.Absent)) ≡ a
+    go : (a b : Bool) (n : ℕ) → n < 128 → lost_bit (pick a (Some (n + 128)) (pick b (Some n) None)) ≡ a
     go true b n k = le-leb 128 (n + 128) (omega arith)
     go false true n k = lt-leb 128 n k
     go false false n k = refl

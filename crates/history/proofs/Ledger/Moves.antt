@@ -13,7 +13,7 @@ use Rattle.codec.specs.Time.{ns}
 use Rattle.codec.specs.Ident.{ident_bytes}
 use Rattle.codec.specs.Item.{state_bytes, load_length}
 use Rattle.codec.specs.declared.time.Time.{Time}
-use Rattle.codec.specs.declared.item.State.TheVariants as State
+use Rattle.std.specs.Prelude.{Some, None}
 use Rattle.history.specs.Account.{Event}
 use Rattle.history.specs.Ledger.{Limits, Line, Frame, Ledger, Op, state_in, item_in, size_in, total, is_empty, waiting_in, offset_in, line_for, closes_before, overdue, close, begin, enter, mirrored, passed, taken, is_out, failed, step_l, run_l}
 use Rattle.history.specs.Ledger as Rules
@@ -73,7 +73,7 @@ pub size_most : (x : Line) → size_in x ≤ 5 + length (ident_bytes x.event.ide
 unfolding size_in item_in state_in
 size_most x = let m = state_most x.lost x.event.due x.event.state in omega arith
   where
-    state_most : (a b : Bool) (n : ℕ) → length (state_bytes (pick a (State.Byte (n + 128)) (pick b (State.Byte n) State.Absent))) ≤ 1
+    state_most : (a b : Bool) (n : ℕ) → length (state_bytes (pick a (Some (n + 128)) (pick b (Some n) None))) ≤ 1
     state_most true b n = omega arith
     state_most false true n = omega arith
     state_most false false n = omega arith

@@ -6,11 +6,14 @@ use mathlib.Core.List.{List, [], ◌∷◌, map}
 use native.Mathlib.Omega.{arith}
 use lib.ListN.{length, take, get_or-map}
 use lib.Seq.{take-set-lt, get_or-take, set-get_or}
-use lib.Dec.{eqb}
-use borrow.Author.Tests.{eqb-true, eqb-false, lt-ltb}
+use borrow.Author.Tests.{lt-ltb}
 use Rattle.codec.specs.declared.ident.Kind.TheVariants as Kind
 use Rattle.framer.specs.declared.framer.Framer.{Framer}
 use Rattle.bus.specs.declared.source.Source.{Source}
+use Rattle.std.specs.Prelude.{Result, Ok, Err}
+use Rattle.framer.specs.Cause.{number_of, answer_of, guard}
+use Rattle.framer.specs.declared.cause.Cause.{Cause}
+use Rattle.framer.proofs.FramerLaws.{caused}
 use Rattle.mirror.specs.Engine.{no_source, sound_of, cause_of, answered, index_of, source_at, with_source}
 use Rattle.mirror.specs.declared.engine.Engine.{Engine}
 use Rattle.mirror.proofs.MirrorLaws.{few}
@@ -32,15 +35,15 @@ pub record Steady (e : Engine) : Type 0 where
   pub healthy : All HealthyS e.sources
 
 -- an answer of 0: no cause stands against the call, and what it was to do is done
-pub accepted : (e after : Engine) (cause : ℕ) → (answered e (cause_of e cause) after).answer ≡ 0
-    → (cause ≡ 0) × ((answered e (cause_of e cause) after).engine ≡ after)
-unfolding answered cause_of
-accepted e after cause z = go (sound_of e) (eqb cause 0) refl refl
+pub accepted : {A : Type 0} (e after : Engine) (x : A) (r : Result Unit Cause) → answer_of (answered e (cause_of e r) x after).answer ≡ 0
+    → (r ≡ Ok tt) × ((answered e (cause_of e r) x after).engine ≡ after)
+unfolding cause_of
+accepted {A} e after x r z = go (sound_of e) r refl refl
   where
-    go : (a b : Bool) → sound_of e ≡ a → eqb cause 0 ≡ b → (cause ≡ 0) × ((answered e (cause_of e cause) after).engine ≡ after)
-    go false b p q = wrong 18 (rw p at z)
-    go true true p q = (eqb-true cause 0 q, rw (p, q))
-    go true false p q = let y : cause ≡ 0 = rw (p, q) at z in absurd (eqb-false cause 0 q y)
+    go : (a : Bool) (q : Result Unit Cause) → sound_of e ≡ a → r ≡ q → (r ≡ Ok tt) × ((answered e (guard (sound_of e) Cause.Unsound r) x after).engine ≡ after)
+    go false q p y = wrong 18 (rw p at z)
+    go true (Ok u) p y = (y, rw (p, y))
+    go true (Err c) p y = let n : number_of c ≡ 0 = rw (p, y) at z in let k : ⊥ = omega (arith, caused c) in absurd k
 
 -- where there is no source
 no_account : account_of no_source ≡ fresh_account Kind.Can 0

@@ -15,7 +15,7 @@ use Rattle.codec.specs.Item.{shown_ok, set_of, set_for, load_ok, item_ok}
 use Rattle.codec.specs.Layout.{IdentFits}
 use Rattle.codec.specs.declared.time.Time.{Time}
 use Rattle.codec.specs.declared.ident.Ident.{Ident}
-use Rattle.codec.specs.declared.item.State.TheVariants as State
+use Rattle.std.specs.Prelude.{Some, None}
 use Rattle.codec.proofs.BoolLaws.{and_l, and_r, or_true}
 use Rattle.codec.proofs.PidLaws.{pid_small}
 use Rattle.codec.proofs.Opened.{never}
@@ -33,8 +33,8 @@ use Rattle.history.proofs.Sources.ReportLaws.{Bind, bind_none, bind_errors, bind
 
 -- the item of an event may stand in a frame, with a loss or without
 event_ok : (ev : Event) → ident_ok ev.ident ≡ true → load_ok ev.carries (most_of ev.ident) (length ev.payload) ≡ true
-    → shown_ok (kind_of ev.ident) ev.state ≡ true → set_for ev.ident (set_of (State.Byte 0) ev.ident ev.carries) ≡ true
-    → (ev.due ≡ false → set_for ev.ident (set_of State.Absent ev.ident ev.carries) ≡ true)
+    → shown_ok (kind_of ev.ident) ev.state ≡ true → set_for ev.ident (set_of (Some 0) ev.ident ev.carries) ≡ true
+    → (ev.due ≡ false → set_for ev.ident (set_of None ev.ident ev.carries) ≡ true)
     → (offset : ℕ) (lost : Bool) → item_ok (item_in (record { event = ev; offset = offset; lost = lost })) (length ev.payload) ≡ true
 unfolding item_ok item_in state_in
 event_ok ev i l s e a offset true =
@@ -53,8 +53,8 @@ pub record Means (b : Bound) (id : Ident) (r : Report) (n : ℕ) : Type 0 where
   pub fits : IdentFits id
   pub ok : ident_ok id ≡ true
   pub load : n ≤ most_of id → load_ok r.carries (most_of id) n ≡ true
-  pub set : set_for id (set_of (State.Byte 0) id r.carries) ≡ true
-  pub still : (a : Account) → shows_by b a ≡ false → set_for id (set_of State.Absent id r.carries) ≡ true
+  pub set : set_for id (set_of (Some 0) id r.carries) ≡ true
+  pub still : (a : Account) → shows_by b a ≡ false → set_for id (set_of None id r.carries) ≡ true
 
 pub means_can : (source : ℕ) (t : Time) (key n : ℕ) → key < 2 ^ 32 → (can_report source t key).ranged ≡ true → Means none (Ident.Can key) (can_report source t key) n
 unfolding can_report

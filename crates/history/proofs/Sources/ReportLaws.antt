@@ -5,6 +5,7 @@ use mathlib.Core.Bool.{Bool, true, false, not, ◌||◌}
 use native.Mathlib.Omega.{arith}
 use lib.Dec.{ltb}
 use lib.Bits.{bit_and, bit_or, or_zero_r}
+use Rattle.std.specs.Prelude.{Some}
 use Rattle.codec.specs.Choice.{pick}
 use Rattle.codec.proofs.BoolLaws.{or_false, or_true}
 use Rattle.bus.specs.Source.{due}
@@ -116,8 +117,7 @@ module _ (b : Bound) (s : Source) (r : Report) (g : Bind b r.kept r.raised r.car
     started = s.started;
     state = settled_state i;
     known = noted_known i;
-    shown = pick (offer_due i) (noted_state i) s.shown;
-    told = s.told || offer_due i;
+    shown = pick (offer_due i) (Some (noted_state i)) s.shown;
     heard = true;
   }
 

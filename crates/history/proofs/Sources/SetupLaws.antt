@@ -11,20 +11,22 @@ use borrow.Author.Tests.{eqb-true, leb-true}
 use Rattle.codec.specs.Choice.{bit}
 use Rattle.codec.specs.declared.ident.Kind.TheVariants as Kind
 use Rattle.codec.proofs.Opened.{never}
-use Rattle.codec.proofs.Opened as Opened
+use Rattle.std.specs.Prelude.{Ok}
+use Rattle.framer.specs.declared.cause.Cause.{Cause}
+use Rattle.framer.proofs.FramerLaws.{passed-guard}
 use Rattle.framer.specs.Meter.{limits_ok}
 use Rattle.framer.specs.Framer.{empty_framer}
 use Rattle.framer.proofs.KeptLaws.{kept_empty}
 use Rattle.bus.specs.Source.{fresh_source}
 use Rattle.bus.specs.declared.source.Source.{Source}
 use Rattle.mirror.specs.Engine.{no_sources}
-use Rattle.mirror.specs.Setup.{kind_numbered, source_numbered, pair_ok, named_again, pairs_ok, sources_ok, named, setup_of}
+use Rattle.mirror.specs.Setup.{kind_numbered, source_numbered, pair_ok, named_again, pairs_ok, sources_ok, named, setup_cause, setup_of}
 use Rattle.mirror.specs.Call.{Call, step_of}
 use Rattle.mirror.specs.declared.engine.Engine.{Engine}
 use Rattle.mirror.proofs.Kept.{sound_by}
 use Rattle.history.specs.Account.{fresh_account, kind_named, accounts_for}
 use Rattle.history.specs.History.{All}
-use Rattle.history.proofs.Ground.TestLaws.{wrong, and3_yes}
+use Rattle.history.proofs.Ground.TestLaws.{and3_yes}
 use Rattle.history.proofs.Ground.ListLaws.{all_set, all_replicate}
 use Rattle.history.proofs.Sources.SourceLaws.{account_of, HealthyS, fresh-account, fresh_healthy}
 use Rattle.history.proofs.Sources.BookLaws.{book_of, Steady, accepted}
@@ -80,10 +82,10 @@ set_engine size room deadline pairs =
 module _ (e : Engine) (size room deadline : ℕ) (pairs : List ℕ) (z : (step_of e (Call.setup size room deadline pairs)).said.answer ≡ 0) where
   -- no cause stands against it
   setup_tests : (eqb e.count 0 ≡ true) × (limits_ok size room deadline ≡ true) × (sources_ok pairs ≡ true)
-  unfolding setup_of
+  unfolding setup_of setup_cause
   setup_tests =
-      let y = (accepted e (set_engine size room deadline pairs) _ z).0 in
-      Opened.chosen (eqb e.count 0 && limits_ok size room deadline && sources_ok pairs) 0 14 y (wrong 13) (λ q x. and3_yes _ _ _ q)
+      let y = (accepted e (set_engine size room deadline pairs) tt _ z).0 in
+      and3_yes _ _ _ (passed-guard (eqb e.count 0 && limits_ok size room deadline && sources_ok pairs) Cause.BadSetup (Ok tt) tt y).0
 
   pub setup_empty : e.count ≡ 0
   setup_empty = eqb-true e.count 0 setup_tests.0
@@ -98,8 +100,8 @@ module _ (e : Engine) (size room deadline : ℕ) (pairs : List ℕ) (z : (step_o
       (leb-true (length pairs) 16 p.0, leb-true 2 (length pairs) p.1, p.2)
 
   setup_engine : (step_of e (Call.setup size room deadline pairs)).engine ≡ set_engine size room deadline pairs
-  unfolding setup_of
-  setup_engine = (accepted e (set_engine size room deadline pairs) _ z).1
+  unfolding setup_of setup_cause
+  setup_engine = (accepted e (set_engine size room deadline pairs) tt _ z).1
 
   pub setup_framer : (step_of e (Call.setup size room deadline pairs)).engine.framer ≡ empty_framer size room (record { 0 = deadline })
   setup_framer = ap (λ (x : Engine). x.framer) setup_engine

@@ -31,7 +31,6 @@ account_of s = record {
   state = s.state;
   known = s.known;
   shown = s.shown;
-  told = s.told;
   heard = s.heard;
 }
 

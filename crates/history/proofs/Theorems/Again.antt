@@ -9,12 +9,14 @@ use lib.Dec.{eqb}
 use borrow.Author.Tests.{eqb-true, eqb-false, le-leb, ne_eqb}
 use Rattle.codec.specs.Choice.{pick}
 use Rattle.codec.proofs.BoolLaws.{and_r}
-use Rattle.codec.proofs.Opened.{chosen}
+use Rattle.std.specs.Prelude.{Ok}
+use Rattle.framer.specs.Cause.{guard}
+use Rattle.framer.specs.declared.cause.Cause.{Cause}
 use Rattle.framer.specs.Meter.{limits_ok, sound_meter}
-use Rattle.mirror.specs.Engine.{answered, cause_of}
+use Rattle.mirror.specs.Engine.{cause_of}
 use Rattle.framer.specs.declared.meter.Meter.{Meter}
-use Rattle.framer.proofs.FramerLaws.{sounds}
-use Rattle.mirror.specs.Setup.{reset_of, switch_of, offline_of}
+use Rattle.framer.proofs.FramerLaws.{sounds, passed-guard}
+use Rattle.mirror.specs.Setup.{reset_of, switch_cause, switch_of, offline_of}
 use Rattle.mirror.specs.Call.{Call, step_of, run_of}
 use Rattle.mirror.specs.declared.engine.Engine.{Engine}
 use Rattle.mirror.proofs.Refused.{refused-keeps}
@@ -24,7 +26,6 @@ use Rattle.history.specs.Ledger.{Limits, Ledger, Op, empty_ledger, run_l}
 use Rattle.history.specs.Deed.{deeds_of, done, ops_on}
 use Rattle.history.specs.History.{All, Allowed, Plain, set_up, Leaves}
 use Rattle.history.specs.Again.{Resets, Typed, limits_of, limits_on}
-use Rattle.history.proofs.Ground.TestLaws.{wrong}
 use Rattle.history.proofs.Framer.MeterLaws.{meter_of}
 use Rattle.history.proofs.Sources.BookLaws.{book_of, Steady, accepted}
 use Rattle.history.proofs.Engine.EngineLaws.{step_book}
@@ -43,11 +44,11 @@ record Alive (c : Limits) (book : List Account) (e : Engine) : Type 0 where
 -- an accepted switch, and offline, which is never refused then
 switch_begun : (e : Engine) (size room deadline : ℕ) → Steady e → (step_of e (Call.switch size room deadline)).said.answer ≡ 0
     → Begun (record { size = size; room = room; deadline = deadline }) (map renewed (book_of e)) (step_of e (Call.switch size room deadline)).engine
-unfolding switch_of
+unfolding switch_of switch_cause
 switch_begun e size room deadline s z =
     let b : Bool = not (eqb e.count 0) && limits_ok size room deadline in
-    let a = accepted e (reset_of e size room (record { 0 = deadline })) (pick b 0 14) z in
-    let h : b ≡ true = chosen b 0 14 a.0 (wrong 13) (λ q r. q) in
+    let a = accepted e (reset_of e size room (record { 0 = deadline })) tt (guard b Cause.BadSetup (Ok tt)) z in
+    let h : b ≡ true = (passed-guard b Cause.BadSetup (Ok tt) tt a.0).0 in
     rw a.1 (after_begun (record { size = size; room = room; deadline = deadline }) e s (and_r (not (eqb e.count 0)) (limits_ok size room deadline) h))
 
 limits_kept : (m : Meter) → sound_meter m ≡ true → limits_ok m.size m.room m.deadline.0 ≡ true
@@ -63,7 +64,7 @@ limits_kept m s =
     )
 
 offline_begun : (c : Limits) (book : List Account) (e : Engine) → Alive c book e → Begun c (map renewed (book_of e)) (step_of e Call.offline).engine
-unfolding offline_of answered cause_of meter_of
+unfolding offline_of cause_of meter_of
 offline_begun c book e a =
     let s = a.steady in
     let n : eqb e.count 0 ≡ false = ne_eqb e.count 0 (λ z. let y : ⊥ = omega (arith, s.some) in y) in

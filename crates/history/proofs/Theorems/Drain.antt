@@ -5,9 +5,9 @@ use mathlib.Core.Bool.{true}
 use mathlib.Core.List.{List, [], ◌∷◌, ◌++◌, map}
 use native.Mathlib.Omega.{arith}
 use lib.ListN.{length, take, replicate, length-map}
-use borrow.Author.Tests.{ne_eqb, le-ltb, eq-eqb}
+use borrow.Author.Tests.{ne_eqb, le-leb, eq-eqb}
 use Rattle.framer.specs.Queue.{length_at}
-use Rattle.framer.specs.Framer.{take_of}
+use Rattle.framer.specs.Framer.{ready_of, take_of}
 use Rattle.mirror.specs.Engine.{sound_of}
 use Rattle.mirror.specs.Take.{taken_of}
 use Rattle.mirror.specs.Call.{Call, step_of, run_of}
@@ -36,7 +36,7 @@ Drains e out = frames_taken (deeds_of e (replicate (length (frames_waiting e)) (
 -- no slot holds more than 1,024 bytes, so a take with room for them is answered 0
 module _ (c : Limits) (e : Engine) (l : Ledger) (out : List ℕ) (t : Tied c e.framer l) (s : sound_of e ≡ true) (h : 1024 ≤ length out) where
   answered_0 : (f : Frame) (fs : List Frame) → waiting_in l ≡ f ∷ fs → (step_of e (Call.take out)).said.answer ≡ 0
-  unfolding taken_of take_of meter_of
+  unfolding taken_of take_of ready_of meter_of
   answered_0 f fs q =
       let n : e.framer.meter.waiting ≡ suc (length fs) = rw t.tie.meter (ap length q) in
       let m = length_most e.framer.queue e.framer.meter.first (first_small c e.framer l t) in
@@ -44,7 +44,7 @@ module _ (c : Limits) (e : Engine) (l : Ledger) (out : List ℕ) (t : Tied c e.f
         s,
         t.sound,
         ne_eqb e.framer.meter.waiting 0 (λ z. let y : ⊥ = omega arith in y),
-        le-ltb (length out) (length_at e.framer.queue e.framer.meter.first) (omega arith),
+        le-leb (length_at e.framer.queue e.framer.meter.first) (length out) (omega arith),
       )
 
 framer_after : (e : Engine) (out : List ℕ) → Steady e → (step_of e (Call.take out)).said.answer ≡ 0 → (step_of e (Call.take out)).engine.framer ≡ step_w e.framer Rules.take

@@ -6,9 +6,10 @@ use mathlib.Core.List.{List, [], ◌∷◌, ◌++◌, map}
 use native.Mathlib.Omega.{arith}
 use lib.ListN.{length, take, length-map}
 use lib.Seq.{length-take-le}
+use Rattle.std.specs.Prelude.{Ok}
 use Rattle.codec.specs.Choice.{pick}
 use Rattle.framer.specs.declared.meter.Meter.{Meter}
-use Rattle.mirror.specs.Engine.{sound_of, asked_of, discards_of, failures_of}
+use Rattle.mirror.specs.Engine.{sound_of, cause_of, discards_of, failures_of}
 use Rattle.mirror.specs.Call.{Call, step_of, run_of}
 use Rattle.mirror.specs.declared.engine.Engine.{Engine}
 use Rattle.history.specs.Account.{Account, accounts_for}
@@ -51,13 +52,13 @@ module _ (c : Limits) (e : Engine) (l : Ledger) (t : Tied c e.framer l) where
       go true q = refl
       go false q = ap (λ (x : List ℕ). x ∷ []) (rw t.tie.bytes (image_front l.filling q))
 
-  discards_are : sound_of e ≡ true → (discards_of e).count ≡ discard_count l
-  unfolding discards_of asked_of meter_of
-  discards_are s = rw s (ap (λ (m : Meter). m.discards) t.tie.meter)
+  discards_are : sound_of e ≡ true → discards_of e ≡ Ok (discard_count l)
+  unfolding discards_of cause_of meter_of
+  discards_are s = rw s (ap (λ (m : Meter). Ok m.discards) t.tie.meter)
 
-  failures_are : sound_of e ≡ true → (failures_of e).count ≡ failure_count l
-  unfolding failures_of asked_of meter_of
-  failures_are s = rw s (ap (λ (m : Meter). m.failures) t.tie.meter)
+  failures_are : sound_of e ≡ true → failures_of e ≡ Ok (failure_count l)
+  unfolding failures_of cause_of meter_of
+  failures_are s = rw s (ap (λ (m : Meter). Ok m.failures) t.tie.meter)
 
   lost_is : e.framer.meter.lost ≡ l.lost
   unfolding meter_of

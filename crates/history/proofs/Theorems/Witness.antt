@@ -5,8 +5,8 @@ use mathlib.Core.List.{[], ◌∷◌}
 use native.Mathlib.Omega.{arith}
 use Rattle.framer.specs.Meter.{limits_ok, sound_meter, empty_meter}
 use Rattle.framer.specs.Framer.{empty_framer}
-use Rattle.mirror.specs.Engine.{fresh_engine, sound_of, cause_of, answered}
-use Rattle.mirror.specs.Setup.{pair_ok, sources_ok, setup_of}
+use Rattle.mirror.specs.Engine.{fresh_engine, sound_of, cause_of}
+use Rattle.mirror.specs.Setup.{pair_ok, sources_ok, setup_cause, setup_of}
 use Rattle.mirror.specs.Vectors.{p9}
 use Rattle.history.specs.Account.{accounts_for}
 use Rattle.history.specs.Ledger.{Limits}
@@ -18,7 +18,7 @@ abbrev limits : Limits
 limits = record { size = 64; room = 1; deadline = 1 }
 
 accepted : (set_up fresh_engine limits (1 ∷ 5 ∷ [])).said.answer ≡ 0
-unfolding setup_of answered cause_of sound_of fresh_engine empty_framer empty_meter sound_meter limits_ok sources_ok pair_ok
+unfolding setup_of setup_cause cause_of sound_of fresh_engine empty_framer empty_meter sound_meter limits_ok sources_ok pair_ok
 accepted = refl
 
 key : 0x123 < 2 ^ 32

@@ -1,14 +1,13 @@
-use Rattle.std.proofs.Common.{◌≡◌, ◌≤◌, ◌*◌, ◌-◌, length, drop}
+use Rattle.std.proofs.Common.{◌≡◌, ◌≤◌, ◌+◌, ◌*◌, length}
 use Rattle.mirror.specs.Setup.{named}
 use Rattle.mirror.proofs.setup.named.Given as goal
 
-abbrev pub invariant-loop-i : goal.invariant-loop-i
-invariant-loop-i l = record {
-  past : l.i ≤ length l.pairs;
-  twice : 2 * l.k ≡ l.i;
+abbrev pub invariant-loop-rest : goal.invariant-loop-rest
+invariant-loop-rest l = record {
+  within : 2 * l.k + length l.rest ≤ 16;
   whole : length l.sources ≡ 8;
-  same : named 0 l.pairs l.initial.sources ≡ named l.k (drop l.i l.pairs) l.sources;
+  same : named 0 l.pairs l.initial.sources ≡ named l.k l.rest l.sources;
 }
 
-abbrev pub decreases-loop-i : goal.decreases-loop-i
-decreases-loop-i l = length l.pairs - l.i
+abbrev pub decreases-loop-rest : goal.decreases-loop-rest
+decreases-loop-rest l = length l.rest

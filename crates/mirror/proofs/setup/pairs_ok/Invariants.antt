@@ -1,9 +1,9 @@
-use Rattle.std.proofs.Common.{◌≡◌, ◌≤◌, ◌-◌, length, drop}
+use Rattle.std.proofs.Common.{◌≡◌, length}
 use Rattle.mirror.specs.Setup.{pairs_ok}
 use Rattle.mirror.proofs.setup.pairs_ok.Given as goal
 
-abbrev pub invariant-loop-i : goal.invariant-loop-i
-invariant-loop-i l = (l.i ≤ length l.pairs) × (pairs_ok l.pairs ≡ pairs_ok (drop l.i l.pairs))
+abbrev pub invariant-loop-rest : goal.invariant-loop-rest
+invariant-loop-rest l = pairs_ok l.pairs ≡ pairs_ok l.rest
 
-abbrev pub decreases-loop-i : goal.decreases-loop-i
-decreases-loop-i l = length l.pairs - l.i
+abbrev pub decreases-loop-rest : goal.decreases-loop-rest
+decreases-loop-rest l = length l.rest

@@ -1,7 +1,9 @@
-use Rattle.text.proofs.ShortLaws.{short_then}
-use Rattle.script.specs.Answer.{flexray_text}
+use Rattle.std.proofs.Common.{ap}
+use Rattle.text.proofs.DraftLaws.{adds_then, adds_as}
+use Rattle.text.specs.Put.{decimal_of}
+use Rattle.script.specs.Answer.{field_text, flexray_text}
 use Rattle.script.proofs.answer.flexray.Goals as goal
 
 pub returns : goal.returns
 unfolding flexray_text
-returns c = short_then (short_then (short_then (short_then c.field-a.ensures c.lay-b.ensures) c.number-d.ensures) c.lay-e.ensures) c.number.ensures
+returns c = adds_then (adds_then (adds_then (adds_then (adds_as c.field.ensures (ap field_text c.from.ensures)) c.push.ensures) (adds_as c.number.ensures (ap decimal_of c.from-2.ensures))) c.push-2.ensures) (adds_as c.number-2.ensures (ap decimal_of c.from-3.ensures))

@@ -1,10 +1,11 @@
-use Rattle.std.proofs.Common.{arith}
-use Rattle.text.proofs.ShortLaws.{short_then, short_as}
-use Rattle.script.specs.Answer.{judged_text}
+use Rattle.std.proofs.Common.{ap}
+use Rattle.text.proofs.DraftLaws.{adds_then, adds_as}
+use Rattle.text.specs.Put.{decimal_of}
+use Rattle.script.specs.Answer.{field_text, judged_text}
 use Rattle.script.proofs.answer.lay_judged.Goals as goal
 
 pub returns : goal.returns
 unfolding judged_text
 returns c =
-    short_as (short_then (short_then (short_then c.number-a.ensures c.field-b.ensures) c.time-d.ensures) c.field.ensures)
-    (rw (c.judged_number.ensures, c.judged_header-h.ensures)) (omega arith)
+    adds_as (adds_then (adds_then (adds_then (adds_as c.number.ensures (ap decimal_of c.from.ensures)) (adds_as c.field.ensures (ap field_text c.from-2.ensures))) c.time.ensures) (adds_as c.field-2.ensures (ap field_text c.from-3.ensures)))
+    (rw (c.number_of-answer.ensures, c.unwrap_or-header.ensures))

@@ -8,4 +8,4 @@ pub returns : goal.returns
 unfolding remove_of
 returns c =
     stored_by (λ s. removed_filter s c.args.number) _ _ _ _ _ _ _ _ c.index-k.ensures.is refl c.remove_filter.ensures
-    (c.known-cause.ensures ∙ rw (c.remove_cause.ensures, source_is _ _ _ c.index-k.ensures.is)) c.store.ensures
+    (c.removes.ensures ∙ rw (source_is _ _ _ c.index-k.ensures.is)) c.store.ensures

@@ -6,4 +6,4 @@ use Rattle.mirror.proofs.engine.Engine.start.Goals as goal
 
 pub returns : goal.returns
 unfolding start_of
-returns c = stored_by started_source _ _ _ _ _ _ _ _ c.index-k.ensures.is refl c.start.ensures c.known-cause.ensures c.store.ensures
+returns c = stored_by started_source _ _ _ _ _ _ _ _ c.index-k.ensures.is refl c.start.ensures c.known.ensures c.store.ensures

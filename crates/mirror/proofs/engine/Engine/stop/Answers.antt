@@ -6,4 +6,4 @@ use Rattle.mirror.proofs.engine.Engine.stop.Goals as goal
 
 pub returns : goal.returns
 unfolding stop_of
-returns c = stored_by stopped_source _ _ _ _ _ _ _ _ c.index-k.ensures.is refl c.stop.ensures c.known-cause.ensures c.store.ensures
+returns c = stored_by stopped_source _ _ _ _ _ _ _ _ c.index-k.ensures.is refl c.stop.ensures c.known.ensures c.store.ensures

@@ -1,12 +1,11 @@
-use Rattle.std.proofs.Common.{refl}
+use Rattle.std.proofs.Common.{refl, ◌∙◌}
 use Rattle.bus.specs.Update.{updated}
 use Rattle.mirror.specs.Source.{update_of}
-use Rattle.mirror.specs.Engine.{cause_of, sound_of}
 use Rattle.mirror.proofs.MirrorLaws.{stored_by, source_is}
 use Rattle.mirror.proofs.engine.Engine.update.Goals as goal
 
 pub returns : goal.returns
-unfolding update_of cause_of sound_of
+unfolding update_of
 returns c =
     stored_by (λ s. updated s c.args.u) _ _ _ _ _ _ _ _ c.index-k.ensures.is refl c.apply.ensures
-    (rw (c.first-all.ensures, c.sound.ensures, c.update_cause-cause.ensures, source_is _ _ _ c.index-k.ensures.is)) c.store.ensures
+    (c.updates.ensures ∙ rw (source_is _ _ _ c.index-k.ensures.is)) c.store.ensures
