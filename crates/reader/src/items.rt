@@ -7,7 +7,7 @@ use codec::field::Decoded;
 use codec::refusal::Refusal;
 
 // Yields each item with the place where it stands, or the first refusal and then nothing.
-#[derive(Clone, Copy)]
+#[derive(Drop)]
 pub struct Items<'a> {
     frame: &'a [u8],
     place: usize,

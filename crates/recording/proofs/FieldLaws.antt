@@ -11,24 +11,19 @@ use Rattle.codec.proofs.BoolLaws.{and_false, or_true}
 use Rattle.std.specs.Prelude.{Ok, Err}
 use Rattle.codec.specs.declared.time.Time.{Time}
 use Rattle.codec.specs.declared.header.Header.{Header}
-use Rattle.codec.specs.declared.refusal.Refusal.{Refusal}
 use Rattle.reader.specs.Frame.{judge_of}
 use Rattle.recording.specs.declared.error.RecordError.{RecordError}
 use Rattle.recording.specs.declared.field.Found.{Found}
-use Rattle.recording.specs.File.{frame_found, note_found, start_in, start_found, verdict, keeps}
+use Rattle.recording.specs.File.{short_of, frame_found, note_found, start_in, start_found, verdict, keeps}
 
 module _ (n : ℕ) (body : List ℕ) where
   pub frame_long : 1472 < n → Err RecordError.Long ≡ frame_found n body
-  unfolding frame_found
+  unfolding frame_found short_of
   frame_long h = simp (lt-ltb 1472 n h)
 
   pub frame_good : {h : Header} → n ≤ 1472 → judge_of body ≡ Ok h → Ok (Found.Frame h) ≡ frame_found n body
-  unfolding frame_found
+  unfolding frame_found short_of
   frame_good k e = simp (le-ltb 1472 n k, e)
-
-  pub frame_bad : {why : Refusal} → n ≤ 1472 → judge_of body ≡ Err why → Err (RecordError.Frame why) ≡ frame_found n body
-  unfolding frame_found
-  frame_bad k e = simp (le-ltb 1472 n k, e)
 
   pub start_size : (n ≡ 10 → ⊥) → Err RecordError.Start ≡ start_found n body
   unfolding start_found
@@ -41,14 +36,6 @@ module _ (n : ℕ) (body : List ℕ) where
   pub start_good : {t : Time} → n ≡ 10 → t ≡ start_in body → t.nano ≤ 999999999 → Ok (Found.Start t) ≡ start_found n body
   unfolding start_found
   start_good {t} h e k = rw (← e) (simp (eq-eqb n 10 h, le-leb t.nano 999999999 k))
-
-pub note_long : (n : ℕ) → 1472 < n → Err RecordError.Long ≡ note_found n
-unfolding note_found
-note_long n h = simp (lt-ltb 1472 n h)
-
-pub note_good : (n : ℕ) → n ≤ 1472 → Ok Found.Note ≡ note_found n
-unfolding note_found
-note_good n h = simp (le-ltb 1472 n h)
 
 -- the four rows of the table
 module _ (tag n : ℕ) (body : List ℕ) where

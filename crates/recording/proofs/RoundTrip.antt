@@ -8,7 +8,7 @@ use lib.ListN.{length, take, drop, length-append, length-drop, take-append-drop}
 use lib.Seq.{take-append_seam, take_all, drop_at, take-length}
 use lib.Dec.{ltb, leb, eqb}
 use borrow.Author.Tests.{le-leb, leb-true, ltb-false, eqb-true, eqb-false}
-use Rattle.codec.specs.Choice.{pick}
+use Rattle.codec.specs.Choice.{pick, then}
 use Rattle.codec.specs.Number.{word, word_at, Bytes}
 use Rattle.codec.specs.Time.{time_ok}
 use Rattle.std.specs.Prelude.{Result, Ok, Err, ⊤}
@@ -23,7 +23,7 @@ use Rattle.codec.proofs.Stands.{join as join_Stands}
 use Rattle.codec.specs.Header.{time_at}
 use Rattle.reader.specs.Frame.{judge_of, resolved}
 use Rattle.recording.specs.declared.error.RecordError.{RecordError}
-use Rattle.recording.specs.File.{Raw, length_in, size_in, complete, first, fields_of, left_of, frame_found, note_found, start_in, start_found, verdict, keeps, finding_of, findings_of}
+use Rattle.recording.specs.File.{Raw, length_in, size_in, complete, first, fields_of, left_of, short_of, frame_found, note_found, start_in, start_found, verdict, keeps, finding_of, findings_of}
 use Rattle.recording.specs.Write.{field_bytes, start_bytes, frame_answer, note_answer, start_answer}
 use Rattle.recording.specs.Trip.{answer_in, good, AllGood, raw_bytes, file_of, again_by, again, again_all}
 use Rattle.recording.specs.declared.field.Found.{Found}
@@ -124,6 +124,10 @@ parts (suc n) s b h =
 pub whole : (s : List ℕ) → Bytes s → s ≡ file_of (fields_of s) ++ left_of s
 whole s b = (parts (length s) s b (omega arith)).is
 
+-- what stands against a body, by its length
+abbrev short : Bool → Result ⊤ RecordError
+short b = pick b (Err RecordError.Long) (Ok tt)
+
 -- The writer's answer is that of the listing.
 judged_answer : (j : Result Header Refusal) → resolved j (λ h. Ok tt) (λ why. Err (RecordError.Frame why))
     ≡ answer_in (resolved j (λ h. Ok (Found.Frame h)) (λ why. Err (RecordError.Frame why)))
@@ -131,19 +135,19 @@ judged_answer (Ok h) = refl
 judged_answer (Err why) = refl
 
 pub frame_answers : (body : List ℕ) → frame_answer body ≡ answer_in (verdict 1 (length body) body)
-unfolding frame_answer verdict frame_found
+unfolding frame_answer verdict frame_found short_of
 frame_answers body = go (ltb 1472 (length body)) (judge_of body)
   where
-    go : (b : Bool) (j : Result Header Refusal) → pick b (Err RecordError.Long) (resolved j (λ h. Ok (tt {0})) (λ why. Err (RecordError.Frame why)))
-        ≡ answer_in (pick b (Err RecordError.Long) (resolved j (λ h. Ok (Found.Frame h)) (λ why. Err (RecordError.Frame why))))
+    go : (b : Bool) (j : Result Header Refusal) → then (short b) (λ s. resolved j (λ h. Ok (tt {0})) (λ why. Err (RecordError.Frame why)))
+        ≡ answer_in (then (short b) (λ s. resolved j (λ h. Ok (Found.Frame h)) (λ why. Err (RecordError.Frame why))))
     go true j = refl
     go false j = judged_answer j
 
 pub note_answers : (body : List ℕ) → note_answer body ≡ answer_in (verdict 2 (length body) body)
-unfolding note_answer verdict note_found
+unfolding note_answer verdict note_found short_of
 note_answers body = go (ltb 1472 (length body))
   where
-    go : (b : Bool) → pick b (Err RecordError.Long) (Ok tt) ≡ answer_in (pick b (Err RecordError.Long) (Ok Found.Note))
+    go : (b : Bool) → short b ≡ answer_in (then (short b) (λ s. Ok Found.Note))
     go true = refl
     go false = refl
 
@@ -153,7 +157,7 @@ unfolding findings_of
 lists f s h = rw (field_back f s h)
 
 pub frame_lists : (body : List ℕ) {h : Header} → frame_answer body ≡ Ok tt → judge_of body ≡ Ok h → verdict 1 (length body) body ≡ Ok (Found.Frame h)
-unfolding frame_answer verdict
+unfolding frame_answer verdict short_of
 frame_lists body {h} e j = go (ltb 1472 (length body)) refl
   where
     go : (b : Bool) → ltb 1472 (length body) ≡ b → frame_found (length body) body ≡ Ok (Found.Frame h)
@@ -161,20 +165,20 @@ frame_lists body {h} e j = go (ltb 1472 (length body)) refl
     go false f = sym (frame_good (length body) body (ltb-false 1472 (length body) f) j)
 
 pub frame_is_good : (body : List ℕ) → frame_answer body ≡ Ok tt → good (verdict 1 (length body) body) ≡ true
-unfolding frame_answer verdict frame_found
+unfolding frame_answer verdict frame_found short_of
 frame_is_good body e = go (ltb 1472 (length body)) (judge_of body) e
   where
-    go : (b : Bool) (j : Result Header Refusal) → pick b (Err RecordError.Long) (resolved j (λ h. Ok (tt {0})) (λ why. Err (RecordError.Frame why))) ≡ Ok (tt {0})
-        → good (pick b (Err RecordError.Long) (resolved j (λ h. Ok (Found.Frame h)) (λ why. Err (RecordError.Frame why)))) ≡ true
+    go : (b : Bool) (j : Result Header Refusal) → then (short b) (λ s. resolved j (λ h. Ok (tt {0})) (λ why. Err (RecordError.Frame why))) ≡ Ok (tt {0})
+        → good (then (short b) (λ s. resolved j (λ h. Ok (Found.Frame h)) (λ why. Err (RecordError.Frame why)))) ≡ true
     go true j e = never (cc)
     go false (Ok h) e = refl
     go false (Err why) e = never (cc)
 
 pub note_lists : (body : List ℕ) → note_answer body ≡ Ok tt → verdict 2 (length body) body ≡ Ok Found.Note
-unfolding note_answer verdict note_found
+unfolding note_answer verdict note_found short_of
 note_lists body e = go (ltb 1472 (length body)) e
   where
-    go : (b : Bool) → pick b (Err RecordError.Long) (Ok (tt {0})) ≡ Ok (tt {0}) → pick b (Err RecordError.Long) (Ok Found.Note) ≡ Ok Found.Note
+    go : (b : Bool) → short b ≡ Ok (tt {0}) → then (short b) (λ s. Ok Found.Note) ≡ Ok Found.Note
     go true e = never (cc)
     go false e = refl
 
@@ -212,22 +216,22 @@ start_lists t e = go (time_ok t) refl
 
 -- What was listed as good writes back as the same bytes.
 frame_again : (n : ℕ) (body : List ℕ) → good (verdict 1 n body) ≡ true → again_by (verdict 1 n body) (pick (keeps 1 n) body []) ≡ field_bytes 1 body
-unfolding verdict frame_found keeps
+unfolding verdict frame_found short_of keeps
 frame_again n body e = go (ltb 1472 n) (judge_of body) refl e
   where
     go : (b : Bool) (j : Result Header Refusal) → ltb 1472 n ≡ b
-        → good (pick b (Err RecordError.Long) (resolved j (λ h. Ok (Found.Frame h)) (λ why. Err (RecordError.Frame why)))) ≡ true
-        → again_by (pick b (Err RecordError.Long) (resolved j (λ h. Ok (Found.Frame h)) (λ why. Err (RecordError.Frame why)))) (pick (keeps 1 n) body []) ≡ field_bytes 1 body
+        → good (then (short b) (λ s. resolved j (λ h. Ok (Found.Frame h)) (λ why. Err (RecordError.Frame why)))) ≡ true
+        → again_by (then (short b) (λ s. resolved j (λ h. Ok (Found.Frame h)) (λ why. Err (RecordError.Frame why)))) (pick (keeps 1 n) body []) ≡ field_bytes 1 body
     go true j f e = never (cc)
     go false (Err why) f e = never (cc)
     go false (Ok h) f e = rw (le-leb n 1472 (ltb-false 1472 n f))
 
 note_again : (n : ℕ) (body : List ℕ) → good (verdict 2 n body) ≡ true → again_by (verdict 2 n body) (pick (keeps 2 n) body []) ≡ field_bytes 2 body
-unfolding verdict note_found keeps
+unfolding verdict note_found short_of keeps
 note_again n body e = go (ltb 1472 n) refl e
   where
-    go : (b : Bool) → ltb 1472 n ≡ b → good (pick b (Err RecordError.Long) (Ok Found.Note)) ≡ true
-        → again_by (pick b (Err RecordError.Long) (Ok Found.Note)) (pick (keeps 2 n) body []) ≡ field_bytes 2 body
+    go : (b : Bool) → ltb 1472 n ≡ b → good (then (short b) (λ s. Ok Found.Note)) ≡ true
+        → again_by (then (short b) (λ s. Ok Found.Note)) (pick (keeps 2 n) body []) ≡ field_bytes 2 body
     go true f e = never (cc)
     go false f e = rw (le-leb n 1472 (ltb-false 1472 n f))
 

@@ -4,6 +4,7 @@ use Rattle.recording.proofs.error.U8FromRecordError.from.Reads as number
 use Rattle.recording.proofs.error.RecordErrorFromRefusal.from.Reads as refused
 use Rattle.recording.proofs.tag.U8FromTag.from.Reads as byte
 use Rattle.recording.proofs.tag.TagTryFromU8.try_from.Reads as tag
+use Rattle.recording.proofs.field.short.Reads as short
 use Rattle.recording.proofs.field.judge.Reads as judge
 use Rattle.recording.proofs.field.kept.Reads as kept
 use Rattle.recording.proofs.pieces.begin.Reads as begin
@@ -52,3 +53,6 @@ byte_unique κs a r r' x x' p q = p ∙ sym q
 
 pub tag_unique : (κs : _) (a : _) (r r' : _) (x x' : _) → tag.Post κs a r x → tag.Post κs a r' x' → r ≡ r'
 tag_unique κs a r r' x x' p q = p ∙ sym q
+
+pub short_unique : (κs : _) (a : _) (r r' : _) (x x' : _) → short.Post κs a r x → short.Post κs a r' x' → r ≡ r'
+short_unique κs a r r' x x' p q = p ∙ sym q

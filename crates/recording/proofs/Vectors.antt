@@ -2,7 +2,7 @@
 use Prim.Native.Nat.{ℕ}
 use mathlib.Core.Path.{◌≡◌, refl}
 use mathlib.Core.List.{List, [], ◌∷◌, ◌++◌}
-use Rattle.recording.specs.File.{listing_of, complete, along, fields_of, left_of, frame_found, note_found, start_found, verdict, keeps, findings_of}
+use Rattle.recording.specs.File.{listing_of, complete, along, fields_of, left_of, frame_found, note_found, short_of, start_found, verdict, keeps, findings_of}
 use Rattle.recording.specs.declared.error.RecordError.{RecordError}
 use Rattle.recording.specs.declared.field.Found.{Found}
 use Rattle.std.specs.Prelude.{Ok, Err}
@@ -33,7 +33,7 @@ pub small_lists : listing_of small
       answer = Err RecordError.Cut;
       skipped = 1;
     }
-unfolding listing_of findings_of fields_of left_of along complete verdict note_found start_found time_at keeps word word_at fits
+unfolding listing_of findings_of fields_of left_of along complete verdict note_found short_of start_found time_at keeps word word_at fits
 small_lists = refl
 
 -- refusals: a frame of four bytes is too short, a start of nine bytes, a start of 1,000,000,000 ns; the next field is judged as if alone
@@ -49,20 +49,20 @@ pub refused_list : listing_of ((1 ∷ 0 ∷ 4 ∷ 1 ∷ 0 ∷ 0 ∷ 0 ∷ []) ++
       answer = Ok tt;
       skipped = 0;
     }
-unfolding listing_of findings_of fields_of left_of along complete verdict frame_found note_found start_found time_at keeps word word_at fits judge_of read_header
+unfolding listing_of findings_of fields_of left_of along complete verdict frame_found note_found short_of start_found time_at keeps word word_at fits judge_of read_header
 refused_list = refl
 
 -- lengths: 1,472 is a note and 1,473 is not, whatever the bytes; a frame of 1,473 bytes is 41 and never read; a start of 1,473 bytes is 42
 pub long_note : verdict 2 1472 [] ≡ Ok Found.Note
-unfolding verdict note_found
+unfolding verdict note_found short_of
 long_note = refl
 
 pub longer_note : verdict 2 1473 [] ≡ Err RecordError.Long
-unfolding verdict note_found
+unfolding verdict note_found short_of
 longer_note = refl
 
 pub longer_frame : (body : List ℕ) → verdict 1 1473 body ≡ Err RecordError.Long
-unfolding verdict frame_found
+unfolding verdict frame_found short_of
 longer_frame body = refl
 
 pub longer_start : (body : List ℕ) → verdict 3 1473 body ≡ Err RecordError.Start

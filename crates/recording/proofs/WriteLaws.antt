@@ -5,17 +5,13 @@ use mathlib.Core.Bool.{true, false}
 use mathlib.Core.List.{List, [], ◌++◌, append-nil}
 use native.Mathlib.Omega.{arith}
 use lib.ListN.{length, set, drop_of_length-le}
-use borrow.Author.Tests.{lt-ltb, le-ltb}
 use Rattle.std.specs.Prelude.{Option, Result, Ok, Err, ⊤}
 use Rattle.codec.specs.Number.{be, Wrote, Laid}
 use Rattle.codec.specs.Time.{time_ok}
 use Rattle.codec.specs.declared.time.Time.{Time}
 use Rattle.codec.proofs.NumberLaws.{laid, laid_by, chain_put, no_room, has_room_lem}
-use Rattle.reader.specs.Frame.{judge_of}
-use Rattle.codec.specs.declared.header.Header.{Header}
-use Rattle.codec.specs.declared.refusal.Refusal.{Refusal}
 use Rattle.recording.specs.declared.error.RecordError.{RecordError}
-use Rattle.recording.specs.Write.{Recorded, field_bytes, start_bytes, frame_answer, note_answer, start_answer}
+use Rattle.recording.specs.Write.{Recorded, field_bytes, start_bytes, start_answer}
 
 pub field_length : (tag : ℕ) (body : List ℕ) → length (field_bytes tag body) ≡ 3 + length body
 unfolding field_bytes
@@ -49,26 +45,6 @@ not_recorded e = rw e record { list = refl; says = refl }
 pub recorded_as : {l : List ℕ} {at : ℕ} {bs l' : List ℕ} {r : Result ℕ RecordError} {a : Result ⊤ RecordError} → a ≡ Ok tt
     → Recorded (Ok tt) l at bs l' r → Recorded a l at bs l' r
 recorded_as e d = rw e d
-
-pub frame_over : (body : List ℕ) → 1472 < length body → frame_answer body ≡ Err RecordError.Long
-unfolding frame_answer
-frame_over body h = simp (lt-ltb 1472 (length body) h)
-
-pub frame_judged : (body : List ℕ) {h : Header} → length body ≤ 1472 → judge_of body ≡ Ok h → frame_answer body ≡ Ok tt
-unfolding frame_answer
-frame_judged body k e = simp (le-ltb 1472 (length body) k, e)
-
-pub frame_refused : (body : List ℕ) {why : Refusal} → length body ≤ 1472 → judge_of body ≡ Err why → frame_answer body ≡ Err (RecordError.Frame why)
-unfolding frame_answer
-frame_refused body k e = simp (le-ltb 1472 (length body) k, e)
-
-pub note_over : (body : List ℕ) → 1472 < length body → note_answer body ≡ Err RecordError.Long
-unfolding note_answer
-note_over body h = simp (lt-ltb 1472 (length body) h)
-
-pub note_fits : (body : List ℕ) → length body ≤ 1472 → note_answer body ≡ Ok tt
-unfolding note_answer
-note_fits body h = simp (le-ltb 1472 (length body) h)
 
 pub start_out : (t : Time) → time_ok t ≡ false → start_answer t ≡ Err RecordError.Start
 unfolding start_answer

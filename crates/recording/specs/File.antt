@@ -1,7 +1,7 @@
 -- A recording as a whole list of bytes (docs/RULES.md, "Recordings"): fields one after another, each a tag (1 byte), a length
 -- (2, big-endian) and a body; what a field is found to be; what is answered at the end.
 use Rattle.std.specs.Prelude.{ℕ, zero, suc, ◌+◌, ◌*◌, min, Bool, ◌&&◌, ◌||◌, List, [], ◌∷◌, map, length, take, drop, get_or, ltb, leb, eqb, Result, Ok, Err, ⊤}
-use Rattle.codec.specs.Choice.{pick}
+use Rattle.codec.specs.Choice.{pick, then}
 use Rattle.codec.specs.declared.time.Time.{Time}
 use Rattle.codec.specs.Header.{time_at}
 use Rattle.reader.specs.Frame.{judge_of, resolved}
@@ -40,15 +40,18 @@ fields_of s = along (λ rest. []) (λ f fs. f ∷ fs) (length s) s
 unfoldable pub left_of : List ℕ → List ℕ
 left_of s = along (λ rest. rest) (λ f rest. rest) (length s) s
 
+-- 41 over 1,472 bytes
+unfoldable pub short_of : ℕ → Result ⊤ RecordError
+short_of n = pick (ltb 1472 n) (Err RecordError.Long) (Ok tt)
+
 -- tag 1, a mirror frame: 41 over 1,472 bytes, else the reader's verdict
 unfoldable pub frame_found : ℕ → List ℕ → Result Found RecordError
 frame_found n body =
-    pick (ltb 1472 n) (Err RecordError.Long)
-    (resolved (judge_of body) (λ h. Ok (Found.Frame h)) (λ why. Err (RecordError.Frame why)))
+    then (short_of n) (λ short. resolved (judge_of body) (λ h. Ok (Found.Frame h)) (λ why. Err (RecordError.Frame why)))
 
 -- tag 2, a text note: 41 over 1,472 bytes; any bytes are a note
 unfoldable pub note_found : ℕ → Result Found RecordError
-note_found n = pick (ltb 1472 n) (Err RecordError.Long) (Ok Found.Note)
+note_found n = then (short_of n) (λ short. Ok Found.Note)
 
 -- tag 3, a microphone's start: seconds (6) and nanoseconds (4), as in a frame's header
 abbrev pub start_in : List ℕ → Time

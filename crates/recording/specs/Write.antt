@@ -1,11 +1,12 @@
 -- Writing a field into a lent output at an index, the whole of it or nothing (docs/RULES.md, "Recordings").
-use Rattle.std.specs.Prelude.{ℕ, ◌+◌, ◌≡◌, ◌&&◌, List, [], ◌∷◌, ◌++◌, length, ltb, Result, Ok, Err, ⊤}
+use Rattle.std.specs.Prelude.{ℕ, ◌+◌, ◌≡◌, ◌&&◌, List, [], ◌∷◌, ◌++◌, length, Result, Ok, Err, ⊤}
 use Rattle.std.specs.Result.{is_ok, result_and}
-use Rattle.codec.specs.Choice.{pick}
+use Rattle.codec.specs.Choice.{pick, then}
 use Rattle.codec.specs.Number.{be, over, fits}
 use Rattle.codec.specs.Time.{time_ok}
 use Rattle.codec.specs.declared.time.Time.{Time}
 use Rattle.reader.specs.Frame.{judge_of, resolved}
+use Rattle.recording.specs.File.{short_of}
 use Rattle.recording.specs.declared.error.RecordError.{RecordError}
 
 -- tag, length, body
@@ -19,11 +20,11 @@ start_bytes t = be 6 t.sec ++ be 4 t.nano
 -- what stands against writing it: 41, then the reader's refusal
 unfoldable pub frame_answer : List ℕ → Result ⊤ RecordError
 frame_answer body =
-    pick (ltb 1472 (length body)) (Err RecordError.Long) (resolved (judge_of body) (λ h. Ok tt) (λ why. Err (RecordError.Frame why)))
+    then (short_of (length body)) (λ short. resolved (judge_of body) (λ h. Ok tt) (λ why. Err (RecordError.Frame why)))
 
 -- 41
 unfoldable pub note_answer : List ℕ → Result ⊤ RecordError
-note_answer body = pick (ltb 1472 (length body)) (Err RecordError.Long) (Ok tt)
+note_answer body = short_of (length body)
 
 -- 42, also for seconds that six bytes do not hold
 unfoldable pub start_answer : Time → Result ⊤ RecordError

@@ -1,6 +1,6 @@
 // One field of a recording, judged by its own bytes.
 ghost use Rattle.std.specs.Prelude.{◌≡◌};
-ghost use Rattle.recording.specs.File.{frame_found, note_found, start_found, verdict, keeps};
+ghost use Rattle.recording.specs.File.{short_of, frame_found, note_found, start_found, verdict, keeps};
 
 use crate::error::RecordError;
 use crate::tag::Tag;
@@ -24,23 +24,30 @@ pub struct Field {
     pub found: Result<Found, RecordError>,
 }
 
-#[tactic(auto, using(crate::proofs::FieldLaws::frame_long, crate::proofs::FieldLaws::frame_good, crate::proofs::FieldLaws::frame_bad), unfolding(crate::specs::File::frame_found))]
+// A frame or a note has 1,472 bytes at most.
+#[tactic(auto, unfolding(crate::specs::File::short_of))]
+pub fn short(length: usize) -> Result<(), RecordError>
+    ensures { result ≡ short_of length }
+{
+    if 1472 < length {
+        return Err(RecordError::Long);
+    }
+    Ok(())
+}
+
+#[tactic(auto, unfolding(crate::specs::File::frame_found))]
 fn frame(length: u16, body: &[u8]) -> Result<Found, RecordError>
     ensures { result ≡ frame_found length body.now }
 {
-    if 1472 < length {
-        return Err(RecordError::Long);
-    }
+    short(usize::from(length))?;
     Ok(Found::Frame(reader::judge(body)?))
 }
 
-#[tactic(auto, using(crate::proofs::FieldLaws::note_long, crate::proofs::FieldLaws::note_good))]
+#[tactic(auto, unfolding(crate::specs::File::note_found))]
 fn note(length: u16) -> Result<Found, RecordError>
     ensures { result ≡ note_found length }
 {
-    if 1472 < length {
-        return Err(RecordError::Long);
-    }
+    short(usize::from(length))?;
     Ok(Found::Note)
 }
 

@@ -21,24 +21,20 @@ fn put_field(out: &mut [u8], at: usize, tag: Tag, body: &[u8]) -> Result<usize, 
 }
 
 // A frame that the reader refuses is not recorded, so that a recording lists clean.
-#[tactic(auto, using(crate::proofs::WriteLaws::not_recorded, crate::proofs::WriteLaws::recorded_as, crate::proofs::WriteLaws::frame_over, crate::proofs::WriteLaws::frame_judged, crate::proofs::WriteLaws::frame_refused))]
+#[tactic(auto, using(crate::proofs::WriteLaws::not_recorded, crate::proofs::WriteLaws::recorded_as), unfolding(crate::specs::Write::frame_answer))]
 pub fn frame(out: &mut [u8], at: usize, body: &[u8]) -> Result<usize, RecordError>
     ensures { Recorded (frame_answer body.now) out.old at (field_bytes 1 body.now) out.new result }
 {
-    if 1472 < body.len() {
-        return Err(RecordError::Long);
-    }
+    crate::field::short(body.len())?;
     reader::judge(body)?;
     put_field(out, at, Tag::Frame, body)
 }
 
-#[tactic(auto, using(crate::proofs::WriteLaws::not_recorded, crate::proofs::WriteLaws::recorded_as, crate::proofs::WriteLaws::note_over, crate::proofs::WriteLaws::note_fits))]
+#[tactic(auto, using(crate::proofs::WriteLaws::not_recorded, crate::proofs::WriteLaws::recorded_as), unfolding(crate::specs::Write::note_answer))]
 pub fn note(out: &mut [u8], at: usize, body: &[u8]) -> Result<usize, RecordError>
     ensures { Recorded (note_answer body.now) out.old at (field_bytes 2 body.now) out.new result }
 {
-    if 1472 < body.len() {
-        return Err(RecordError::Long);
-    }
+    crate::field::short(body.len())?;
     put_field(out, at, Tag::Note, body)
 }
 
