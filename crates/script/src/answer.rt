@@ -15,14 +15,17 @@ use codec::time::{Nanos, Time};
 use reader::Stepped;
 use text::draft::Draft;
 
-fn lay(draft: &mut Draft<256>, s: &[u8])
+// No short answer is longer.
+type Line = Draft<256>;
+
+fn lay(draft: &mut Line, s: &[u8])
     requires { length draft.old + length s.now ≤ 256 }
     ensures { Adds (length s.now) draft.old s.now draft.new }
 {
     draft.push(s);
 }
 
-fn number(draft: &mut Draft<256>, v: u64)
+fn number(draft: &mut Line, v: u64)
     requires { length draft.old + 20 ≤ 256 }
     ensures { Adds 20 draft.old (decimal_of v) draft.new }
 {
@@ -31,7 +34,7 @@ fn number(draft: &mut Draft<256>, v: u64)
 
 // A space, and a number.
 #[tactic(auto, unfolding(crate::specs::Answer::field_text))]
-fn field(draft: &mut Draft<256>, v: u64)
+fn field(draft: &mut Line, v: u64)
     requires { length draft.old + 21 ≤ 256 }
     ensures { Adds 21 draft.old (field_text v) draft.new }
 {
@@ -40,7 +43,7 @@ fn field(draft: &mut Draft<256>, v: u64)
 }
 
 #[tactic(auto, unfolding(crate::specs::Answer::time_text))]
-fn time(draft: &mut Draft<256>, t: Time)
+fn time(draft: &mut Line, t: Time)
     requires { length draft.old + 42 ≤ 256 }
     ensures { Adds 42 draft.old (time_text t) draft.new }
 {
@@ -48,7 +51,7 @@ fn time(draft: &mut Draft<256>, t: Time)
     field(draft, u64::from(t.nano))
 }
 
-fn state(draft: &mut Draft<256>, shown: Option<u8>)
+fn state(draft: &mut Line, shown: Option<u8>)
     requires { length draft.old + 21 ≤ 256 }
     ensures { Adds 21 draft.old (state_text shown) draft.new }
 {
@@ -59,7 +62,7 @@ fn state(draft: &mut Draft<256>, shown: Option<u8>)
 }
 
 #[tactic(auto, unfolding(crate::specs::Answer::flexray_text))]
-fn flexray(draft: &mut Draft<256>, channels: u8, slot: u16, cycle: u8)
+fn flexray(draft: &mut Line, channels: u8, slot: u16, cycle: u8)
     requires { length draft.old + 63 ≤ 256 }
     ensures { Adds 63 draft.old (flexray_text channels slot cycle) draft.new }
 {
@@ -71,7 +74,7 @@ fn flexray(draft: &mut Draft<256>, channels: u8, slot: u16, cycle: u8)
 }
 
 #[tactic(auto, unfolding(crate::specs::Answer::error_text))]
-fn error(draft: &mut Draft<256>, channels: u8)
+fn error(draft: &mut Line, channels: u8)
     requires { length draft.old + 25 ≤ 256 }
     ensures { Adds 25 draft.old (error_text channels) draft.new }
 {
@@ -79,7 +82,7 @@ fn error(draft: &mut Draft<256>, channels: u8)
     lay(draft, b"/-/-")
 }
 
-fn ident(draft: &mut Draft<256>, id: Ident)
+fn ident(draft: &mut Line, id: Ident)
     requires { length draft.old + 63 ≤ 256 }
     ensures { Adds 63 draft.old (ident_text id) draft.new }
 {
@@ -96,7 +99,7 @@ fn ident(draft: &mut Draft<256>, id: Ident)
     }
 }
 
-fn load(draft: &mut Draft<256>, carries: bool, n: usize)
+fn load(draft: &mut Line, carries: bool, n: usize)
     requires { length draft.old + 21 ≤ 256 }
     ensures { Adds 21 draft.old (load_text carries n) draft.new }
 {
@@ -108,7 +111,7 @@ fn load(draft: &mut Draft<256>, carries: bool, n: usize)
 }
 
 #[tactic(auto, unfolding(crate::specs::Answer::placed_text))]
-fn placed(draft: &mut Draft<256>, next: usize, t: Time)
+fn placed(draft: &mut Line, next: usize, t: Time)
     requires { length draft.old + 64 ≤ 256 }
     ensures { Adds 64 draft.old (placed_text next t) draft.new }
 {
@@ -118,7 +121,7 @@ fn placed(draft: &mut Draft<256>, next: usize, t: Time)
 }
 
 #[tactic(auto, unfolding(crate::specs::Answer::item_text))]
-fn item(draft: &mut Draft<256>, it: Item, n: usize)
+fn item(draft: &mut Line, it: Item, n: usize)
     requires { length draft.old + 147 ≤ 256 }
     ensures { Adds 147 draft.old (item_text it n) draft.new }
 {
@@ -139,7 +142,7 @@ const NO_HEADER: Header = Header {
     length: 0,
 };
 
-fn number_of(judged: Result<Header, Refusal>) -> u8
+fn answer_of(judged: Result<Header, Refusal>) -> u8
     ensures { result ≡ judged_number judged }
 {
     match judged {
@@ -149,11 +152,11 @@ fn number_of(judged: Result<Header, Refusal>) -> u8
 }
 
 #[tactic(auto, unfolding(crate::specs::Answer::judged_text))]
-fn lay_judged(draft: &mut Draft<256>, judged: Result<Header, Refusal>)
+fn lay_judged(draft: &mut Line, judged: Result<Header, Refusal>)
     requires { length draft.old + 104 ≤ 256 }
     ensures { Adds 104 draft.old (judged_text judged) draft.new }
 {
-    let answer = number_of(judged);
+    let answer = answer_of(judged);
     let header = judged.unwrap_or(NO_HEADER);
     let t = header.time;
     number(draft, u64::from(answer));
@@ -162,7 +165,7 @@ fn lay_judged(draft: &mut Draft<256>, judged: Result<Header, Refusal>)
     field(draft, u64::from(header.length))
 }
 
-fn lay_stepped(draft: &mut Draft<256>, stepped: Result<Option<Stepped>, Refusal>)
+fn lay_stepped(draft: &mut Line, stepped: Result<Option<Stepped>, Refusal>)
     requires { length draft.old + 211 ≤ 256 }
     ensures { Adds 211 draft.old (stepped_text stepped) draft.new }
 {
@@ -184,7 +187,7 @@ fn lay_stepped(draft: &mut Draft<256>, stepped: Result<Option<Stepped>, Refusal>
 pub fn judged(out: &mut [u8], at: usize, judged: Result<Header, Refusal>) -> Option<usize>
     ensures { Wrote true out.old at (judged_text judged) out.new result }
 {
-    let mut draft = Draft::<256>::new();
+    let mut draft = Line::new();
     lay_judged(&mut draft, judged);
     draft.put(out, at)
 }
@@ -196,13 +199,13 @@ pub fn stepped(
 ) -> Option<usize>
     ensures { Wrote true out.old at (stepped_text stepped) out.new result }
 {
-    let mut draft = Draft::<256>::new();
+    let mut draft = Line::new();
     lay_stepped(&mut draft, stepped);
     draft.put(out, at)
 }
 
 #[tactic(auto, unfolding(crate::specs::Answer::bad_text))]
-fn lay_bad(draft: &mut Draft<256>, line: u64)
+fn lay_bad(draft: &mut Line, line: u64)
     requires { length draft.old + 22 ≤ 256 }
     ensures { Adds 22 draft.old (bad_text line) draft.new }
 {
@@ -214,7 +217,7 @@ fn lay_bad(draft: &mut Draft<256>, line: u64)
 pub fn bad(out: &mut [u8], at: usize, line: u64) -> Option<usize>
     ensures { Wrote true out.old at (bad_text line) out.new result }
 {
-    let mut draft = Draft::<256>::new();
+    let mut draft = Line::new();
     lay_bad(&mut draft, line);
     draft.put(out, at)
 }
@@ -227,7 +230,7 @@ pub fn done(out: &mut [u8], at: usize, answer: u8) -> Option<usize>
 }
 
 #[tactic(auto, unfolding(crate::specs::Answer::numbered_text))]
-fn lay_numbered(draft: &mut Draft<256>, answer: u8, v: u64)
+fn lay_numbered(draft: &mut Line, answer: u8, v: u64)
     requires { length draft.old + 41 ≤ 256 }
     ensures { Adds 41 draft.old (numbered_text answer v) draft.new }
 {
@@ -238,13 +241,13 @@ fn lay_numbered(draft: &mut Draft<256>, answer: u8, v: u64)
 pub fn numbered(out: &mut [u8], at: usize, answer: u8, v: u64) -> Option<usize>
     ensures { Wrote true out.old at (numbered_text answer v) out.new result }
 {
-    let mut draft = Draft::<256>::new();
+    let mut draft = Line::new();
     lay_numbered(&mut draft, answer, v);
     draft.put(out, at)
 }
 
 #[tactic(auto, unfolding(crate::specs::Answer::back_text))]
-fn lay_back(draft: &mut Draft<256>, answer: u8, back: u64)
+fn lay_back(draft: &mut Line, answer: u8, back: u64)
     requires { length draft.old + 46 ≤ 256 }
     ensures { Adds 46 draft.old (back_text answer back) draft.new }
 {
@@ -261,7 +264,7 @@ pub fn timed(out: &mut [u8], at: usize, answer: u8, back: Nanos) -> Option<usize
     if back.0 == 0 {
         return done(out, at, answer);
     }
-    let mut draft = Draft::<256>::new();
+    let mut draft = Line::new();
     lay_back(&mut draft, answer, back.0);
     draft.put(out, at)
 }
@@ -288,7 +291,7 @@ fn before_bytes(out: &mut [u8], at: usize, front: &[u8], part: &[u8]) -> Option<
 pub fn with_bytes(out: &mut [u8], at: usize, answer: u8, part: &[u8]) -> Option<usize>
     ensures { Wrote true out.old at (bytes_text answer part.now) out.new result }
 {
-    let mut draft = Draft::<256>::new();
+    let mut draft = Line::new();
     number(&mut draft, u64::from(answer));
     lay(&mut draft, b" ");
     before_bytes(out, at, draft.as_slice(), part)
@@ -298,7 +301,7 @@ pub fn with_bytes(out: &mut [u8], at: usize, answer: u8, part: &[u8]) -> Option<
 pub fn taken(out: &mut [u8], at: usize, answer: u8, size: u64, part: &[u8]) -> Option<usize>
     ensures { Wrote true out.old at (taken_text answer size part.now) out.new result }
 {
-    let mut draft = Draft::<256>::new();
+    let mut draft = Line::new();
     lay_numbered(&mut draft, answer, size);
     lay(&mut draft, b" ");
     before_bytes(out, at, draft.as_slice(), part)
