@@ -53,7 +53,7 @@ module _ {A : Type 0} (done : A) (bad : Refusal → A) (more : ℕ → Decoded �
       rw e (simp (ne_eqb at (length s) n, q))
 
 module _ (s : List ℕ) where
-  pub walk_end : (at : ℕ) → length s ≤ at → walk_of s at ≡ (Ok tt)
+  pub walk_end : (at : ℕ) → length s ≤ at → walk_of s at ≡ Ok tt
   unfolding walk_of
   walk_end at h = at_end (Ok tt) Err (λ place d rest. rest) s at h
 

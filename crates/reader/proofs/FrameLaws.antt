@@ -88,12 +88,12 @@ over_after l xs ys k e h =
 
 -- what is judged to be a frame has its header and a clean walk, whatever walk it was
 pub judged_clean : (r : Result Header Refusal) (w : Result ⊤ Refusal) {h : Header} → then r (λ x. then w (λ clean. Ok x)) ≡ Ok h
-    → (r ≡ Ok h) × (w ≡ (Ok tt))
+    → (r ≡ Ok h) × (w ≡ Ok tt)
 judged_clean (Ok x) (Ok tt) {h} e = let g : x ≡ h = cc in (ap Ok g, refl)
 judged_clean (Ok x) (Err why) e = never (cc)
 judged_clean (Err why) w e = never (cc)
 
-pub accepted : (s : List ℕ) {h : Header} → judge_of s ≡ Ok h → (read_header s ≡ Ok h) × (walk_of s 14 ≡ (Ok tt))
+pub accepted : (s : List ℕ) {h : Header} → judge_of s ≡ Ok h → (read_header s ≡ Ok h) × (walk_of s 14 ≡ Ok tt)
 unfolding judge_of
 accepted s e = judged_clean (read_header s) (walk_of s 14) e
 

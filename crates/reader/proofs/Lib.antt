@@ -1,5 +1,6 @@
 pub mod TimeLaws
 pub mod ItemsLaws
+pub mod AnswerLaws
 pub mod AlongLaws
 pub mod FrameLaws
 pub mod Theorems

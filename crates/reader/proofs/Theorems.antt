@@ -72,7 +72,7 @@ module _ (s : List ℕ) (b : Bytes s) where
 -- reading a list of valid items that stands at a place to the end of the bytes gives it back
 module _ (s : List ℕ) where
   read_back : (es : List Entry) (at : ℕ) → AllValid es → Stands s at (body es) → at + length (body es) ≡ length s
-      → (walk_of s at ≡ (Ok tt)) × (items_of s at ≡ es)
+      → (walk_of s at ≡ Ok tt) × (items_of s at ≡ es)
   read_back [] at v w n = let e : length s ≤ at = omega arith in (walk_end s at e, items_end s at e)
   read_back (e ∷ es) at v w n =
       let w1 = left (encode e.item e.payload) (body es) w in
@@ -170,7 +170,7 @@ module _ (s : List ℕ) (b : Bytes s) {h : Header} (j : judge_of s ≡ Ok h) whe
       go false (Ok d) = refl
       go false (Err why) = refl
 
-  end_at : (at : ℕ) → at ≡ length s → item_at_of s at ≡ (Ok None)
+  end_at : (at : ℕ) → at ≡ length s → item_at_of s at ≡ Ok None
   unfolding item_at_of
   end_at at e = simp (eq-eqb at (length s) e)
 
@@ -194,7 +194,7 @@ module _ (s : List ℕ) (b : Bytes s) {h : Header} (j : judge_of s ≡ Ok h) whe
   unfolding stepping
   steps_end at m zero f r = rw (items_end s at (omega arith))
   steps_end at m (suc n) f r =
-      let g : step_of s at ≡ (Ok None) = step_at at (r at (starts_last s at at m ∙ eq-eqb at at refl)) ∙ end_at at m in
+      let g : step_of s at ≡ Ok None = step_at at (r at (starts_last s at at m ∙ eq-eqb at at refl)) ∙ end_at at m in
       rw (items_end s at (omega arith)) (simp g)
 
   steps_item : (at : ℕ) (d : Decoded) → at < length s → read_item s at ≡ Ok d → Stepwise d.next → Stepwise at
@@ -235,7 +235,7 @@ module _ (s : List ℕ) (b : Bytes s) {h : Header} (j : judge_of s ≡ Ok h) whe
       starts-at p 14 (header_got s a.0).long a.1
 
   -- the last of them is the end of the frame, which says so
-  pub end_says : step_of s (length s) ≡ (Ok None)
+  pub end_says : step_of s (length s) ≡ Ok None
   end_says =
       let m : among (length s) (places_of 14 (items_of s 14)) ≡ true = rw (← chain_ends) (last_place (items_of s 14) 14) in
       step_at (length s) (starts_exactly (length s) ∙ m) ∙ end_at (length s) refl

@@ -1,5 +1,10 @@
 -- Any two outcomes that a public function's own contract permits coincide.
 use mathlib.Core.Path.{◌≡◌, sym, ◌∙◌}
+use Prim.Native.Nat.{ℕ}
+use denote.RattleType.{RattleType}
+use Rattle.std.specs.declared.convert.Into.{Ghosts}
+use Rattle.std.specs.Prelude.{Result, Ok, Err, MatchResult}
+use Rattle.reader.proofs.answer.number.Reads as answer
 use Rattle.reader.proofs.frame.judge.Reads as judge
 use Rattle.reader.proofs.place.step.Reads as step
 use Rattle.reader.proofs.place.item_at.Reads as item-at
@@ -36,3 +41,14 @@ refused_unique κs a r r' x x' p q = p ∙ sym q
 
 pub time_at_unique : (κs : _) (a : _) (r r' : _) (x x' : _) → time-at.Post κs a r x → time-at.Post κs a r' x' → r ≡ r'
 time_at_unique κs a r r' x x' p q = p ∙ sym q
+
+-- of any error whose own number is one
+answer_one : {T E : Type 0} {converts : E → ℕ → Type 0} (r : Result T E) (m n : ℕ) → ((why : E) (m n : ℕ) → converts why m → converts why n → m ≡ n)
+    → MatchResult r (λ done. m ≡ 0) (λ why. converts why m) → MatchResult r (λ done. n ≡ 0) (λ why. converts why n) → m ≡ n
+answer_one (Ok x) m n one p q = p ∙ sym q
+answer_one (Err why) m n one p q = one why m n p q
+
+module _ (T E : RattleType) (lt : _) (le : _) (ct : _) (ce : _) (gt : _) (dt : _) (ge : _) (de : _) (i : Ghosts E.Denot ℕ) (di : _) where
+  pub answer_unique : (κs : _) (a : _) (r r' : _) (x x' : _) → ((why : E.Denot) (m n : ℕ) → i.converts why m → i.converts why n → m ≡ n)
+      → answer.Post T E lt le ct ce gt dt ge de i di κs a r x → answer.Post T E lt le ct ce gt dt ge de i di κs a r' x' → r ≡ r'
+  answer_unique κs a r r' x x' one p q = answer_one a.0 r r' one p q

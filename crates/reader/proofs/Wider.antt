@@ -72,16 +72,16 @@ module _ (s : List ℕ) where
 
   -- from a place on: what the narrow layout has is read the same
   record Same (n at : ℕ) : Type 0 where
-    pub clean : walk n at ≡ (Ok tt)
+    pub clean : walk n at ≡ Ok tt
     pub same : items n at ≡ narrows n at
     pub none : any_error (items n at) ≡ false
 
-  stays : (n at : ℕ) → narrow n at ≡ (Ok tt) → Same n at
+  stays : (n at : ℕ) → narrow n at ≡ Ok tt → Same n at
   unfolding along narrow_along
   stays zero at e = record { clean = refl; same = refl; none = refl }
   stays (suc n) at e = go (stays n) (eqb at (length s)) refl (narrow_item s at) refl (read_item s at) refl (item_wider s at)
     where
-      go : ((next : ℕ) → narrow n next ≡ (Ok tt) → Same n next) → (t : Bool) → eqb at (length s) ≡ t
+      go : ((next : ℕ) → narrow n next ≡ Ok tt → Same n next) → (t : Bool) → eqb at (length s) ≡ t
           → (x : Result Decoded Refusal) → narrow_item s at ≡ x → (y : Result Decoded Refusal) → read_item s at ≡ y → Wider x y → Same (suc n) at
       go on true q x p y r w = record { clean = simp q; same = simp q; none = simp q }
       go on false q (Err why) p y r w = let z : ◌≡◌ {A = Result ⊤ Refusal} (Err why) (Ok tt) = rw (q, p) at e in never (cc)
@@ -99,14 +99,14 @@ module _ (s : List ℕ) where
   -- and what is read besides, the narrow layout refuses with 25
   abbrev Adds : ℕ → ℕ → Type 0
   Adds n at =
-      (any_error (items n at) ≡ false → narrow n at ≡ (Ok tt)) × (any_error (items n at) ≡ true → narrow n at ≡ Err Refusal.Reserved)
+      (any_error (items n at) ≡ false → narrow n at ≡ Ok tt) × (any_error (items n at) ≡ true → narrow n at ≡ Err Refusal.Reserved)
 
-  adds : (n at : ℕ) → walk n at ≡ (Ok tt) → Adds n at
+  adds : (n at : ℕ) → walk n at ≡ Ok tt → Adds n at
   unfolding along narrow_along
   adds zero at e = (λ z. refl, λ z. never (ap bit z))
   adds (suc n) at e = go (adds n) (eqb at (length s)) refl (narrow_item s at) refl (read_item s at) refl (item_wider s at)
     where
-      go : ((next : ℕ) → walk n next ≡ (Ok tt) → Adds n next) → (t : Bool) → eqb at (length s) ≡ t
+      go : ((next : ℕ) → walk n next ≡ Ok tt → Adds n next) → (t : Bool) → eqb at (length s) ≡ t
           → (x : Result Decoded Refusal) → narrow_item s at ≡ x → (y : Result Decoded Refusal) → read_item s at ≡ y → Wider x y → Adds (suc n) at
       go on true q x p y r w = (λ z. simp q, λ z. never (ap bit (rw q at z)))
       go on false q x p (Err why) r w = let z : ◌≡◌ {A = Result ⊤ Refusal} (Err why) (Ok tt) = rw (q, r) at e in never (cc)

@@ -41,7 +41,7 @@ items_of s at =
 
 -- no refusal from a place on
 abbrev pub Clean : List ℕ → ℕ → Type 0
-Clean s at = walk_of s at ≡ (Ok tt)
+Clean s at = walk_of s at ≡ Ok tt
 
 -- the header first, then the items from place 14
 unfoldable pub judge_of : List ℕ → Result Header Refusal
@@ -81,7 +81,9 @@ laid_out s h = layout h.sequence h.time (items_of s 14)
 -- the reader's refusal first, then 12
 unfoldable pub rewrite_of : List ℕ → List ℕ → Result ℕ RewriteError
 rewrite_of s out =
-    resolved (judge_of s) (λ h. pick (leb (length s) (length out)) (Ok (length s)) (Err RewriteError.Small)) (λ why. Err (RewriteError.Frame why))
+    resolved (judge_of s)
+    (λ h. pick (leb (length s) (length out)) (Ok (length s)) (Err RewriteError.Small))
+    (λ why. Err (RewriteError.Frame why))
 
 -- the bytes at the front of the output; later output bytes stay, and all of them where it is refused
 unfoldable pub rewritten_of : List ℕ → List ℕ → List ℕ

@@ -28,7 +28,9 @@ unfoldable pub stepping : ℕ → List ℕ → ℕ → List Yield
 stepping zero s at = []
 stepping (suc n) s at =
     open_stepped (step_of s at)
-    (λ step. record { place = at; next = step.next; time = step.time; item = step.item; payload = payload_of s at } ∷ stepping n s step.next) []
+    (λ step.
+    record { place = at; next = step.next; time = step.time; item = step.item; payload = payload_of s at } ∷ stepping n s step.next)
+    []
 
 -- the items of a list one after the other from a place on, dated from a header time
 abbrev pub listing : Time → ℕ → List Entry → List Yield

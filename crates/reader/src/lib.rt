@@ -1,11 +1,13 @@
 // The reader: judges a whole frame before it hands anything out, then yields header, items and payloads.
 #![tactic(auto)]
 
+mod answer;
 mod copy;
 mod frame;
 mod items;
 mod place;
 
+pub use answer::number;
 pub use copy::{RewriteError, rewrite};
 pub use frame::judge;
 pub use items::Items;

@@ -1,11 +1,11 @@
 -- Laws of a file's fields: one after the other, and a file after a file. Assumes nothing.
-use Prim.Native.Nat.{ℕ, zero, suc, ◌+◌, ◌-◌, ◌≤◌, ◌<◌}
+use Prim.Native.Nat.{ℕ, zero, suc, ◌+◌, ◌≤◌, ◌<◌}
 use mathlib.Core.Path.{◌≡◌, refl, sym, ◌∙◌, ap}
 use mathlib.Core.Bool.{Bool, true, false}
 use mathlib.Core.List.{List, [], ◌∷◌, ◌++◌, map}
 use native.Mathlib.Omega.{arith}
-use lib.ListN.{length, take, drop, get_or, length-drop, length-append, get_or-append}
-use lib.Seq.{drop-append-le, take-append-le, length-take-le, get_or-append-add}
+use lib.ListN.{length, take, drop, length-drop, length-append, get_or-append}
+use lib.Seq.{drop-append-le, take-append-le, length-take-le}
 use borrow.Author.Tests.{le-leb, lt-leb, leb-true, leb-false}
 use Rattle.codec.specs.Choice.{pick}
 use Rattle.codec.proofs.Opened.{never}
@@ -78,12 +78,6 @@ module _ (s : List ℕ) where
   pub left_end : complete s ≡ false → left_of s ≡ s
   unfolding left_of
   left_end e = along_end (λ rest. rest) (λ f rest. rest) (length s) s e
-
--- an element behind the seam
-pub get_right : (u t : List ℕ) (k d : ℕ) → length u ≤ k → get_or (u ++ t) k d ≡ get_or t (k - length u) d
-get_right u t k d h =
-    let e : k ≡ length u + (k - length u) = omega arith in
-    ap (λ (n : ℕ). get_or (u ++ t) n d) e ∙ get_or-append-add u t (k - length u) d
 
 -- a complete field stays what it is, whatever follows
 module _ (s x : List ℕ) (h : 3 ≤ length s) where

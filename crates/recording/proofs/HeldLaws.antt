@@ -5,10 +5,11 @@ use mathlib.Core.Bool.{Bool, true, false, ◌&&◌}
 use mathlib.Core.List.{List, [], ◌∷◌, ◌++◌}
 use native.Mathlib.Omega.{arith}
 use lib.ListN.{length, take, drop, get_or, length-drop, length-append, drop_of_length-le, get_or-append}
-use lib.Seq.{length-take-le, take_at, drop-append-add, take-append-add, take-nil, take_all}
+use lib.Seq.{get_or-append_right, length-take-le, take_at, drop-append-add, take-append-add, take-nil, take_all}
 use lib.Dec.{ltb, leb}
 use borrow.Author.Tests.{leb-true, leb-false, ltb-true, ltb-false}
 use Rattle.std.specs.Prelude.{Result, None}
+use Rattle.std.proofs.lemmas.List.{get_or_default}
 use Rattle.codec.specs.Choice.{pick}
 use Rattle.codec.specs.Number.{over, fits}
 use Rattle.codec.specs.Field.{bytes_at}
@@ -20,8 +21,8 @@ use Rattle.recording.specs.declared.error.RecordError.{RecordError}
 use Rattle.recording.specs.declared.field.Found.{Found}
 use Rattle.recording.specs.declared.pieces.Place.{Place}
 use Rattle.recording.proofs.FieldLaws.{keeps_short, unkept}
-use Rattle.recording.proofs.PlaceLaws.{sound_same, head_old, head_new, get_any, used_all, used_rest, ends_more, ends_done}
-use Rattle.recording.proofs.FileLaws.{there, not_yet, is_cut, body-length, get_right}
+use Rattle.recording.proofs.PlaceLaws.{sound_same, head_old, head_new, used_all, used_rest, ends_more, ends_done}
+use Rattle.recording.proofs.FileLaws.{there, not_yet, is_cut, body-length}
 
 -- u is what was read of the field under way
 pub record Holds (p : Place) (buffer u : List ℕ) : Type 0 where
@@ -44,8 +45,8 @@ held_cut {p} {buffer} {u} h = go (leb 3 (length u)) refl
     go : (b : Bool) → leb 3 (length u) ≡ b → complete u ≡ false
     go true f =
         let l = leb-true 3 (length u) f in
-        let a : get_or u 1 0 ≡ p.high = get_any u 1 0 p.high (omega arith) ∙ h.high in
-        let b : get_or u 2 0 ≡ p.low = get_any u 2 0 p.low (omega arith) ∙ h.low in
+        let a : get_or u 1 0 ≡ p.high = get_or_default u 1 0 p.high (omega arith) ∙ h.high in
+        let b : get_or u 2 0 ≡ p.low = get_or_default u 2 0 p.low (omega arith) ∙ h.low in
         let k = h.short in
         is_cut u (omega arith)
     go false f = let l = leb-false 3 (length u) f in is_cut u (omega arith)
@@ -60,7 +61,7 @@ head_is k past old u t e g = go (ltb k (length u)) refl
         head_old k past old t (omega arith) ∙ sym (get_or-append u t old k h ∙ g)
     go false f =
         let h : length u ≤ k = ltb-false k (length u) f in
-        head_new k past old t (omega arith) ∙ rw e (sym (get_right u t k old h))
+        head_new k past old t (omega arith) ∙ rw e (sym (get_or-append_right u t k old h))
 
 -- what stands for an element that is not there may be the answer itself
 get_twice : (l : List ℕ) (k d : ℕ) → get_or l k (get_or l k d) ≡ get_or l k d
@@ -138,11 +139,11 @@ module _ (p : Place) (buffer u t : List ℕ) (h : Holds p buffer u) where
   -- they are there now
   module _ (l : 3 ≤ length (u ++ t)) where
     now-tag : (headed_of p t).tag ≡ get_or (u ++ t) 0 0
-    now-tag = q_tag ∙ get_any (u ++ t) 0 p.tag 0 (omega arith)
+    now-tag = q_tag ∙ get_or_default (u ++ t) 0 p.tag 0 (omega arith)
 
     now-length : length_of (headed_of p t) ≡ length_in (u ++ t)
     now-length =
-        rw (q_high ∙ get_any (u ++ t) 1 p.high 0 (omega arith), q_low ∙ get_any (u ++ t) 2 p.low 0 (omega arith))
+        rw (q_high ∙ get_or_default (u ++ t) 1 p.high 0 (omega arith), q_low ∙ get_or_default (u ++ t) 2 p.low 0 (omega arith))
 
   still_short : length u < size_of (headed_of p t)
   still_short = go (leb 3 (length u)) refl

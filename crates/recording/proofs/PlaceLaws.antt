@@ -1,15 +1,15 @@
 -- Laws of one call on a piece. Assumes nothing.
-use Prim.Native.Nat.{ℕ, zero, suc, ◌+◌, ◌-◌, ◌≤◌, ◌<◌, min}
+use Prim.Native.Nat.{ℕ, ◌+◌, ◌-◌, ◌≤◌, ◌<◌, min}
 use mathlib.Core.Path.{◌≡◌, refl, sym, ◌∙◌}
 use mathlib.Core.Bool.{Bool, true, false}
-use mathlib.Core.List.{List, [], ◌∷◌}
+use mathlib.Core.List.{List}
 use native.Mathlib.Omega.{arith}
 use lib.ListN.{length, take, drop, get_or, get_or-eq_default}
 use lib.Dec.{ltb, leb}
 use borrow.Author.Tests.{lt-ltb, le-ltb, eq-eqb, ne_eqb, ltb-true, leb-true, leb-false}
 use Rattle.std.specs.Prelude.{Option, Ok, Err}
+use Rattle.std.proofs.lemmas.List.{get_or_default}
 use Rattle.codec.specs.Choice.{pick}
-use Rattle.codec.proofs.Opened.{never}
 use Rattle.codec.specs.Number.{Wrote}
 use Rattle.recording.specs.declared.error.RecordError.{RecordError}
 use Rattle.recording.specs.declared.pieces.Place.{Place}
@@ -33,19 +33,13 @@ pub head_new : (k past old : ℕ) (piece : List ℕ) → past ≤ k → head_byt
 unfolding head_byte
 head_new k past old piece h = simp (le-ltb k past h)
 
--- what stands for an element that is not there does not matter where it is
-pub get_any : (l : List ℕ) (k d e : ℕ) → k < length l → get_or l k d ≡ get_or l k e
-get_any [] k d e h = let z : ◌≡◌ {A = ℕ} 0 1 = omega arith in never z
-get_any (x ∷ l) zero d e h = refl
-get_any (x ∷ l) (suc k) d e h = get_any l k d e (omega arith)
-
 -- the byte at k, as the code finds it
 module _ (k past old : ℕ) (piece : List ℕ) (h : past ≤ k) where
   pub head_none : length piece ≤ k - past → old ≡ head_byte k past old piece
   head_none g = sym (head_new k past old piece h ∙ get_or-eq_default piece old g)
 
   pub head_got : k - past < length piece → get_or piece (k - past) 0 ≡ head_byte k past old piece
-  head_got g = get_any piece (k - past) 0 old g ∙ sym (head_new k past old piece h)
+  head_got g = get_or_default piece (k - past) 0 old g ∙ sym (head_new k past old piece h)
 
 -- how many bytes are used: none of a field that is over, all that there are, or the rest of the field
 module _ (p : Place) (n : ℕ) where

@@ -41,7 +41,9 @@ left_of s = along (λ rest. rest) (λ f rest. rest) (length s) s
 
 -- tag 1, a mirror frame: 41 over 1,472 bytes, else the reader's verdict
 unfoldable pub frame_found : ℕ → List ℕ → Result Found RecordError
-frame_found n body = pick (ltb 1472 n) (Err RecordError.Long) (resolved (judge_of body) (λ h. Ok (Found.Frame h)) (λ why. Err (RecordError.Frame why)))
+frame_found n body =
+    pick (ltb 1472 n) (Err RecordError.Long)
+    (resolved (judge_of body) (λ h. Ok (Found.Frame h)) (λ why. Err (RecordError.Frame why)))
 
 -- tag 2, a text note: 41 over 1,472 bytes; any bytes are a note
 unfoldable pub note_found : ℕ → Result Found RecordError

@@ -176,23 +176,16 @@ pub fn begin() -> Place
     Place::between(0)
 }
 
+// Goes on with the rest of a piece, as far as the end of one field or of the piece. After a finding the body
+// that was kept is the front of the buffer.
 #[tactic(auto, unfolding(crate::specs::Pieces::next_of, crate::specs::Pieces::kept_of, crate::specs::Pieces::place_of))]
-fn advance(place: Place, buffer: &mut [u8], piece: &[u8]) -> Step
+pub fn next(place: Place, buffer: &mut [u8; 1472], piece: &[u8]) -> Step
     ensures value { result ≡ next_of place buffer.old piece.now }
     ensures buffer_after { buffer.new ≡ kept_of place buffer.old piece.now }
 {
     let p = place.sound().headed(piece);
     p.keep(buffer, piece);
     p.ends(p.used(piece.len()), buffer)
-}
-
-// Goes on with the rest of a piece, as far as the end of one field or of the piece. After a finding the body
-// that was kept is the front of the buffer.
-pub fn next(place: Place, buffer: &mut [u8; 1472], piece: &[u8]) -> Step
-    ensures value { result ≡ next_of place buffer.old piece.now }
-    ensures buffer_after { buffer.new ≡ kept_of place buffer.old piece.now }
-{
-    advance(place, buffer, piece)
 }
 
 // How many bytes of the field under way were read, tag and length among them: none between two fields.
