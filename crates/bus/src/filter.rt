@@ -117,7 +117,9 @@ pub(crate) fn key_passes(places: [Place; 8], key: u32) -> bool
 pub(crate) fn slot_passes(places: [Place; 8], slot: u16, cycle: u8) -> bool
     ensures { result ≡ passes places (Ident.FlexRay 0 slot cycle) }
 {
-    places.iter().any(|place| slot_matches(place.filter, slot, cycle))
+    places
+        .iter()
+        .any(|place| slot_matches(place.filter, slot, cycle))
 }
 
 // One filter's answer. A walk over places asks the functions above, since it knows the kind of id.

@@ -147,7 +147,10 @@ pub fn report_cause(count: usize, f: usize, s: Source, r: Report, n: usize) -> R
     check(s.started, Cause::NotStarted)?;
     check(r.ranged, Cause::OutOfRange)?;
     check(n <= codec::ident::most_of(ident), Cause::PayloadTooLong)?;
-    check(!crate::filter::filtered(ident) | s.passes(ident), Cause::Unmatched)?;
+    check(
+        !crate::filter::filtered(ident) | s.passes(ident),
+        Cause::Unmatched,
+    )?;
     check(!too_big(f, r, n as u8), Cause::TooBig)
 }
 

@@ -94,7 +94,9 @@ impl Source {
     pub fn free_place(self) -> Option<usize>
         ensures { result ≡ free_in self.places }
     {
-        self.places.iter().position(|place| crate::filter::is_free(place.filter))
+        self.places
+            .iter()
+            .position(|place| crate::filter::is_free(place.filter))
     }
 
     // 2, 4, 9, 10; else the place that a filter gets, which is its number.

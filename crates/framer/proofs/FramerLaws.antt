@@ -1,5 +1,5 @@
 -- Laws of the framer's definitions.
-use Rattle.std.proofs.Common.{◌≡◌, ℕ, ◌+◌, ◌-◌, ◌*◌, ◌/◌, ◌%◌, ◌<◌, ◌≤◌, Bool, true, false, ◌||◌, eqb, ltb, leb, List, length, take, drop, set, replicate, sym, refl, ◌∙◌, true≢false, arith, length-take, ltb-false, ltb-true, le-ltb, lt-ltb, eq-eqb, rules, not, ne_eqb, le-leb, leb-true}
+use Rattle.std.proofs.Common.{◌≡◌, ℕ, ◌+◌, ◌-◌, ◌/◌, ◌%◌, ◌<◌, ◌≤◌, Bool, true, false, ◌||◌, eqb, ltb, leb, List, length, take, drop, replicate, sym, refl, ◌∙◌, true≢false, arith, length-take, ltb-false, ltb-true, le-ltb, lt-ltb, eq-eqb, rules, not, ne_eqb, le-leb, leb-true}
 use mathlib.Core.Bool.{false≢true}
 use Rattle.codec.specs.Choice.{pick}
 use Rattle.codec.proofs.BoolLaws.{and_l, and_r}
@@ -14,7 +14,7 @@ use Rattle.framer.specs.declared.cause.Cause.{Cause}
 use Rattle.framer.specs.declared.queue.Queue.{Queue}
 use Rattle.std.specs.Prelude.{Option, Result, Ok, Err}
 use Rattle.framer.specs.Cause.{number_of, answer_of, guard}
-use Rattle.framer.specs.Queue.{queued, length_at}
+use Rattle.framer.specs.Queue.{slot_at, queued, length_at}
 use Rattle.framer.specs.Meter.{closes_for, is_within, back_in, item_of, sound_meter, Sound, start_of, closed_meter, slot_of, counted, placed_meter, taken_meter, failed_meter, offset_for}
 use Rattle.framer.specs.Framer.{closed, begun, laid_out, item_size, filled_meter, filled_bytes, placed, added, add, passed, ready_of, take_of, out_of}
 use Rattle.framer.specs.declared.framer.Framer.{Framer}
@@ -61,20 +61,6 @@ back_by f t = go (ltb t f) refl (leb ((t - f) / 10000) 65535) refl
 -- the ring of eight slots
 pub next_slot : (n : ℕ) → (n % 8 + 1) % 8 ≡ (n + 1) % 8
 next_slot n = omega arith
-
--- a frame is put where it fits a slot
-pub put_long : (q : Queue) (slot : ℕ) (frame : List ℕ) → 1024 < length frame → q ≡ queued q slot frame
-unfolding queued
-put_long q slot frame h = rw (lt-leb (length frame) 1024 h)
-
-pub put_past : (q : Queue) (slot : ℕ) (frame : List ℕ) → length frame ≤ 1024 → 7 < slot → q ≡ queued q slot frame
-unfolding queued
-put_past q slot frame h g = rw (le-leb (length frame) 1024 h, lt-leb slot 7 g)
-
-pub put_in : (q : Queue) (slot : ℕ) (frame bytes : List ℕ) → length frame ≤ 1024 → slot ≤ 7 → bytes ≡ over q.bytes (slot * 1024) frame
-    → record { bytes = bytes; lengths = set q.lengths slot (length frame) } ≡ queued q slot frame
-unfolding queued
-put_in q slot frame bytes h g e = rw (le-leb (length frame) 1024 h, le-leb slot 7 g, e)
 
 -- what a sound meter is
 pub sounds : (m : Meter) → sound_meter m ≡ true → Sound m
@@ -257,12 +243,12 @@ unfolding take_of out_of
 take_refused w out r c e q = (rw (← e, q), rw (← e, q))
 
 pub take_done : (w : Framer) (out : List ℕ) (r : Result ℕ Cause) (n : ℕ) (m : Meter) (part after : List ℕ) {k : Option ℕ} → r ≡ ready_of w (length out)
-    → r ≡ Ok n → m ≡ taken_meter w.meter → part ≡ bytes_at w.queue.bytes (w.meter.first * 1024) n → Wrote true out 0 part after k
+    → r ≡ Ok n → m ≡ taken_meter w.meter → part ≡ bytes_at (slot_at w.queue w.meter.first).bytes 0 n → Wrote true out 0 part after k
     → (record { framer = record { meter = m; bytes = w.bytes; queue = w.queue }; answer = Ok n } ≡ take_of w (length out)) × (after ≡ out_of w out)
 unfolding take_of out_of
 take_done w out r n m part after e g em ep ew =
     let z = readied w (length out) n (sym e ∙ g) in
-    let f : length part ≤ n = rw ep (part_length w.queue.bytes (w.meter.first * 1024) n) in
+    let f : length part ≤ n = rw ep (part_length (slot_at w.queue w.meter.first).bytes 0 n) in
     let q : after ≡ over out 0 part = kept ew (omega (arith, z.fits)) in
     (rw (← e, g, em), rw (← e, g, ← z.long, ← ep) q)
 

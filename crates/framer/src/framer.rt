@@ -178,7 +178,7 @@ impl Framer {
         };
         let m = self.meter;
         let q = self.queue;
-        codec::number::put_bytes(out, 0, codec::field::part_at(&q.bytes, m.first * 1024, n));
+        codec::number::put_bytes(out, 0, codec::field::part_at(&q.slots[m.first].bytes, 0, n));
         self.meter = crate::meter::taken_meter(m);
         Taken {
             framer: self,

@@ -142,9 +142,11 @@ unfolding setup_cause
 set-up e size room deadline pairs u g =
     let s = sounded e (guard (eqb e.count 0 && limits_ok size room deadline && sources_ok pairs) Cause.BadSetup (Ok tt)) u g in
     let f = (passed-guard (eqb e.count 0 && limits_ok size room deadline && sources_ok pairs) Cause.BadSetup (Ok tt) u s.1).0 in
-    let h = and_l (eqb e.count 0 && limits_ok size room deadline) (sources_ok pairs) f in
-    (and_l (eqb e.count 0) (limits_ok size room deadline) h, and_r (eqb e.count 0) (limits_ok size room deadline) h,
-        and_r (eqb e.count 0 && limits_ok size room deadline) (sources_ok pairs) f)
+    let h = and_l (eqb e.count 0 && limits_ok size room deadline) (sources_ok pairs) f in (
+      and_l (eqb e.count 0) (limits_ok size room deadline) h,
+      and_r (eqb e.count 0) (limits_ok size room deadline) h,
+      and_r (eqb e.count 0 && limits_ok size room deadline) (sources_ok pairs) f,
+    )
 
 pub switched : (e : Engine) (size room deadline : ℕ) (u : Unit) → switch_cause e size room deadline ≡ Ok u → limits_ok size room deadline ≡ true
 unfolding switch_cause

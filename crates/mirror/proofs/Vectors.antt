@@ -10,7 +10,7 @@ use Rattle.codec.specs.Field.{bytes_at}
 use Rattle.framer.specs.Meter as Meter
 use Rattle.framer.specs.Meter.{limits_ok, sound_meter, empty_meter, state_shown, item_of, offset_for, back_for, closes_for, slot_of, counted, closed_meter}
 use Rattle.framer.specs.Meter.{placed_meter, taken_meter, failed_meter}
-use Rattle.framer.specs.Queue.{empty_queue, queued, length_at}
+use Rattle.framer.specs.Queue.{empty_queue, held, queued, length_at}
 use Rattle.framer.specs.Framer.{written, empty_framer, closed, begun, laid_out, item_size, placed, filled_meter, filled_bytes, added, add, passed, ready_of, take_of, out_of, failed}
 use Rattle.bus.specs.Filter.{cycled, same_kind, can_range, lin_range, slots_of}
 use Rattle.bus.specs.Source.{fresh_source, reset_source, started_source, add_cause, added_filter, due, tick_due, state_offer, calmed}
@@ -29,7 +29,7 @@ use Rattle.mirror.specs.Vectors.{table, Holds}
 pub vectors : Holds table
 unfolding fits ticks_of elapsed overdue_of Ident.can_range can_zero can_fd even_parity odd_parity pid_ok flexray_range header_bytes lin_zero item_ok encode
     bytes_at limits_ok sound_meter empty_meter state_shown item_of offset_for back_for closes_for slot_of counted closed_meter Meter.start_of placed_meter taken_meter failed_meter
-    empty_queue queued length_at written empty_framer closed begun laid_out item_size placed filled_meter filled_bytes added add passed ready_of take_of out_of failed
+    empty_queue held queued length_at written empty_framer closed begun laid_out item_size placed filled_meter filled_bytes added add passed ready_of take_of out_of failed
     cycled same_kind can_range lin_range slots_of fresh_source reset_source started_source add_cause added_filter due tick_due state_offer calmed
     can_report lin_report flexray_report error_bits error_report too_big report_cause noted offer_of settled
     counter_bits can_byte can_update flexray_update update_cause updated

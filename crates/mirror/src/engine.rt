@@ -58,7 +58,10 @@ impl Engine {
     pub(crate) fn sound(self) -> Result<(), Cause>
         ensures { result ≡ cause_of self (Ok tt) }
     {
-        check((self.count <= 8) & framer::meter::sound(self.framer.meter), Cause::Unsound)
+        check(
+            (self.count <= 8) & framer::meter::sound(self.framer.meter),
+            Cause::Unsound,
+        )
     }
 
     #[tactic(auto, unfolding(crate::specs::Engine::cause_of, crate::specs::Engine::discards_of))]

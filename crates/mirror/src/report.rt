@@ -43,7 +43,14 @@ impl Engine {
         self.report(bus::report::can(source, time, key), payload)
     }
 
-    pub fn lin(self, source: u64, time: Time, pid: u32, errors: u32, payload: &[u8]) -> Outcome<Nanos>
+    pub fn lin(
+        self,
+        source: u64,
+        time: Time,
+        pid: u32,
+        errors: u32,
+        payload: &[u8],
+    ) -> Outcome<Nanos>
         ensures { result ≡ report_of self (lin_report source time pid errors) payload.now }
     {
         self.report(bus::report::lin(source, time, pid, errors), payload)
@@ -66,7 +73,14 @@ impl Engine {
         )
     }
 
-    pub fn conflict(self, source: u64, time: Time, channels: u32, slot: u32, cycle: u32) -> Outcome<Nanos>
+    pub fn conflict(
+        self,
+        source: u64,
+        time: Time,
+        channels: u32,
+        slot: u32,
+        cycle: u32,
+    ) -> Outcome<Nanos>
         ensures { result ≡ report_of self (conflict_report source time channels slot cycle) [] }
     {
         self.report(

@@ -105,7 +105,10 @@ impl Engine {
     {
         self.sound()?;
         let limits = framer::meter::limits_ok(size, room, deadline);
-        check((self.count == 0) & limits & sources_ok(pairs), Cause::BadSetup)
+        check(
+            (self.count == 0) & limits & sources_ok(pairs),
+            Cause::BadSetup,
+        )
     }
 
     #[tactic(auto, unfolding(crate::specs::Setup::setup_of))]

@@ -5,7 +5,7 @@ use mathlib.Core.Bool.{Bool, true, false, not, ◌&&◌, true≢false}
 use mathlib.Core.List.{List, [], ◌∷◌, map, map-append, append-nil}
 use native.Mathlib.Omega.{arith}
 use native.Mathlib.Numerals.{add-one}
-use lib.ListN.{length, take, drop, length-replicate}
+use lib.ListN.{length, take, drop}
 use lib.Dec.{eqb}
 use borrow.Author.Tests.{ltb-true}
 use Rattle.codec.specs.Choice.{pick}
@@ -27,7 +27,7 @@ use Rattle.history.proofs.Ground.ListLaws.{empty_is}
 use Rattle.history.proofs.Ledger.Moves.{Ready, begin_opens, begin-stays, closes_filled, overdue_filled, open_ready, taken_none, taken_one, opened, failed_one, Out, none_out, one_out, out_or_not, failed-none, failed-one}
 use Rattle.history.proofs.Ledger.LedgerLaws.{SoundL, close_waiting, close_waits, took_waiting, step_sound, empty_sound}
 use Rattle.history.proofs.Ledger.FrameLaws.{laid_length}
-use Rattle.history.proofs.Framer.SlotLaws.{Store, push, put_store}
+use Rattle.history.proofs.Framer.SlotLaws.{Store, push, put_store, empty_store}
 use Rattle.history.proofs.Framer.MeterLaws.{filled_in, meter_of, closes_same, overdue_same, take_meter, fail_meter_none, fail_meter, filled_open, close_meter, begin_meter, enter_meter}
 use Rattle.history.proofs.Framer.FillLaws.{image_in, image_front, begin_bytes, enter_bytes}
 
@@ -226,7 +226,7 @@ pub empty_tied : (c : Limits) → limits_ok c.size c.room c.deadline ≡ true
     → Tied c (empty_framer c.size c.room (record { 0 = c.deadline })) empty_ledger
 unfolding empty_framer empty_meter empty_queue empty_ledger meter_of image_in waiting_in filled_in discard_count failure_count
 empty_tied c h = record {
-  tie = record { meter = refl; bytes = refl; slots = refl; store = record { bytes = length-replicate {A = ℕ} 8192 0; lengths = length-replicate {A = ℕ} 8 0 } };
+  tie = record { meter = refl; bytes = refl; slots = refl; store = empty_store };
   sound = kept_empty c.size c.room (record { 0 = c.deadline }) h;
   ledger = empty_sound c;
 }

@@ -10,6 +10,6 @@ returns c =
     let eight : length xs ≡ 8 = search (rules, length_mapped) in
     let long : length c.map.result ≡ 8 = c.map.ensures.items.long in
     same_lists c.map.result (map reset_source xs) (long ∙ sym (length-map xs reset_source ∙ eight)) (λ k d h.
-        let w = c.map.ensures.items.at k d d (omega arith) in
-        let one : get_or c.map.result k d ≡ reset_source (get_or xs k d) = search (rules, tests) in
-        one ∙ sym (get_or-map reset_source xs k d d (omega arith)))
+    let w = c.map.ensures.items.at k d d (omega arith) in
+    let one : get_or c.map.result k d ≡ reset_source (get_or xs k d) = search (rules, tests) in
+    one ∙ sym (get_or-map reset_source xs k d d (omega arith)))

@@ -8,8 +8,11 @@ returns-in_default-clause-value c = (take_refused _ _ _ _ c.ready-answer.ensures
 pub returns-in_default-clause-out_after : goal.returns-in_default-clause-out_after
 returns-in_default-clause-out_after c = (take_refused _ _ _ _ c.ready-answer.ensures c.in_default.is).1
 
-pub overflow_mul-m : goal.overflow_mul-m
-overflow_mul-m c = omega (arith, (sounds _ (readied _ _ _ (sym c.ready-answer.ensures ∙ c.in-Ok.is)).sound).first)
+pub bounds-q-m : goal.bounds-q-m
+bounds-q-m c = omega (arith, (sounds _ (readied _ _ _ (sym c.ready-answer.ensures ∙ c.in-Ok.is)).sound).first)
+
+pub offset_bounds-q-m : goal.offset_bounds-q-m
+offset_bounds-q-m c = omega (arith, (sounds _ (readied _ _ _ (sym c.ready-answer.ensures ∙ c.in-Ok.is)).sound).first)
 
 pub returns-clause-value : goal.returns-clause-value
 returns-clause-value c =
