@@ -46,10 +46,7 @@ impl Job for Lister {
     }
 
     fn last(&self, place: Place, out: &mut [u8]) -> usize {
-        let answer = match recording::pieces::finish(place) {
-            Ok(()) => 0,
-            Err(why) => u8::from(why),
-        };
+        let answer = reader::number(recording::pieces::finish(place));
         listing::end(out, 0, answer, place.skipped).unwrap_or(0)
     }
 }
