@@ -19,7 +19,8 @@ fn width(b: u8) -> usize
     if plain(b) { 1 } else { 4 }
 }
 
-// A text behind what was laid before it, where there is room.
+// A text behind what was laid before it, where there is room. What may be long goes straight to the output: no draft has
+// room for it.
 pub(crate) fn lay(out: &mut [u8], at: usize, s: &[u8]) -> usize
     requires { at + length s.now ≤ length out.old }
     ensures { Short (length s.now) out.old at s.now out.new result }

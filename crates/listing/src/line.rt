@@ -36,6 +36,7 @@ pub fn start(out: &mut [u8], at: usize, t: Time) -> Option<usize>
     line.put(out, at)
 }
 
+// Any number is an answer here: an error in its place would ask more of a caller.
 pub fn refused(out: &mut [u8], at: usize, tag: u8, answer: u8) -> Option<usize>
     ensures { Wrote true out.old at (refused_line tag answer) out.new result }
 {
