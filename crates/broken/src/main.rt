@@ -4,22 +4,13 @@
 mod breach;
 mod calls;
 
-use codec::number::Put;
-
-fn past(put: Put, at: usize) -> usize {
-    match put {
-        Put::Next(end) => end,
-        Put::Nothing => at,
-    }
-}
-
 fn line(out: &mut [u8], k: usize) -> usize {
     let e = breach::engine(k);
     let n = calls::third(calls::second(calls::first(0, e), e), e);
-    let a = past(codec::number::put_bytes(out, 0, breach::name(k)), 0);
-    let b = past(codec::number::put_bytes(out, a, b": 19 from "), a);
-    let d = past(text::put::decimal(out, b, n), b);
-    past(codec::number::put_bytes(out, d, b" of 24 calls\n"), d)
+    let a = codec::number::put_bytes(out, 0, breach::name(k)).unwrap_or(0);
+    let b = codec::number::put_bytes(out, a, b": 19 from ").unwrap_or(a);
+    let d = text::put::decimal(out, b, n).unwrap_or(b);
+    codec::number::put_bytes(out, d, b" of 24 calls\n").unwrap_or(d)
 }
 
 // A line that can't be written is only missing: who compares the lines sees that.

@@ -32,7 +32,7 @@ pub struct Place {
     pub filter: Filter,
 }
 
-// A filter to be added, and whether its numbers are in range.
+// A filter to be added, and whether its numbers are in range; no Result, since 2 and 4 go before that cause.
 #[derive(Clone, Copy)]
 pub struct Addition {
     pub source: u64,

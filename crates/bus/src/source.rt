@@ -13,7 +13,8 @@ pub struct Source {
     pub kind: Kind,
     pub network: u8,
     pub started: bool,
-    // the current state byte without bit 7, and whether it is known
+    // the current state byte without bit 7, and whether it is known; no Option, since an item that tells a loss shows
+    // the byte also while it is not known
     pub state: u8,
     pub known: bool,
     // the state byte shown last

@@ -11,7 +11,7 @@ use framer::cause::{Cause, check};
 pub struct Update {
     pub source: u64,
     pub kind: Kind,
-    // the state is one that can be
+    // the state is one that can be; no Result, since 2, 4 and 3 go before its cause
     pub good: bool,
     pub state: u8,
 }

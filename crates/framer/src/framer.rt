@@ -61,6 +61,7 @@ fn lay(bytes: &mut [u8; 1024], at: usize, item: Item, payload: &[u8], total: usi
     codec::number::put_be(bytes, 12, total as u64, 2);
 }
 
+// The bounds are asked for and no type carries them: a caller may hand in any engine value, and 19 answers it.
 #[tactic(auto, unfolding(crate::specs::Meter::placed_meter))]
 fn placed_meter(m: Meter, t: Time, n: usize) -> Meter
     requires filled_bound { m.filled ≤ 1024 }

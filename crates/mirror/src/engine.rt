@@ -44,7 +44,8 @@ pub fn fresh() -> Engine
     }
 }
 
-// The place of a source; a number past the eighth has none of its own and is refused by its cause.
+// The place of a source; a number past the eighth has none of its own and is refused by its cause. No Option, since 7 goes
+// before that cause.
 #[tactic(auto, unfolding(crate::specs::Engine::index_of))]
 pub(crate) fn index(source: u64) -> usize
     ensures { Below (index_of source) 8 result }
