@@ -1,104 +1,23 @@
--- What a span, a measure and a deadline are in each case, and what a recovered time says. Assumes nothing.
-use Prim.Native.Nat.{ℕ, ◌+◌, ◌-◌, ◌*◌, ◌/◌, ◌%◌, ◌≤◌, ◌<◌, min}
-use mathlib.Core.Path.{◌≡◌, refl, sym, ◌∙◌, ap}
-use mathlib.Core.Bool.{Bool, true, false, ◌&&◌}
+-- What a measure says, and what a recovered time does. Assumes nothing.
+use Prim.Native.Nat.{ℕ, ◌+◌, ◌-◌, ◌*◌, ◌/◌, ◌≤◌, ◌<◌}
+use mathlib.Core.Path.{◌≡◌, refl, sym, ap}
+use mathlib.Core.Bool.{Bool, true, false}
 use native.Mathlib.Omega.{arith}
 use lib.Dec.{ltb, leb}
 use Rattle.codec.proofs.Opened.{never}
-use borrow.Author.Tests.{lt-ltb, le-ltb, le-leb, lt-leb, ltb-true, ltb-false, leb-true, leb-false}
+use borrow.Author.Tests.{lt-leb, ltb-true, ltb-false}
 use Rattle.codec.specs.declared.time.Time.{Time}
 use Rattle.codec.specs.declared.time.Ticks.{Ticks}
 use Rattle.codec.specs.declared.time.Nanos.{Nanos}
 use Rattle.codec.specs.declared.time.Elapsed.{Elapsed}
-use Rattle.codec.specs.Time.{ns, millis_of, ticks_of, behind_by, elapsed, span_of, overdue_of, recovered_of}
+use Rattle.codec.specs.Time.{ns, ticks_of, behind_by, elapsed, recovered_of}
 
-pub back : (f t n : ℕ) → t < f → n ≡ behind_by f t → Elapsed.Backwards (record { 0 = n }) ≡ span_of f t
-unfolding span_of
-back f t n h e = rw e (simp (lt-ltb t f h))
-
-pub far : (f t : ℕ) → f + 100000000000 ≤ t → Elapsed.TooFar ≡ span_of f t
-unfolding span_of
-far f t h = simp (le-ltb t f (omega arith), le-ltb (t - f) 100000000000 (omega arith))
-
-pub near : (f t : ℕ) → f ≤ t → t < f + 100000000000 → Elapsed.Within (record { 0 = t - f }) ≡ span_of f t
-unfolding span_of
-near f t h k = simp (le-ltb t f h, lt-ltb (t - f) 100000000000 (omega arith))
-
--- only the difference counts
-pub shift : (x y f t : ℕ) → f + y ≡ t + x → span_of x y ≡ span_of f t
-unfolding span_of
-shift x y f t h = go (ltb y x) refl
-  where
-    go : (b : Bool) → ltb y x ≡ b → span_of x y ≡ span_of f t
-    go true e =
-        let k : y < x = ltb-true y x e in
-        let d : f - t ≡ x - y = omega arith in
-        simp (e, lt-ltb t f (omega arith), d)
-    go false e =
-        let k : x ≤ y = ltb-false y x e in
-        let d : t - f ≡ y - x = omega arith in
-        simp (e, le-ltb t f (omega arith), d)
-
--- what a span says of the measure and of the deadline
-abbrev pub measured : Elapsed Nanos → Elapsed Ticks
-measured (Elapsed.Within n) = ticks_of n.0
-measured Elapsed.TooFar = Elapsed.TooFar
-measured (Elapsed.Backwards n) = Elapsed.Backwards n
-
-abbrev pub due : ℕ → Elapsed Nanos → Bool
-due d (Elapsed.Within n) = leb 1 d && leb d (millis_of n.0)
-due d Elapsed.TooFar = leb 1 d
-due d (Elapsed.Backwards n) = false
-
-module _ (f t : ℕ) where
-  pub by_span : (p : Elapsed Nanos) → span_of f t ≡ p → measured p ≡ elapsed f t
-  unfolding span_of elapsed ticks_of
-  by_span p q = go (ltb t f) refl (ltb (t - f) 100000000000) refl
-    where
-      go : (b : Bool) → ltb t f ≡ b → (d : Bool) → ltb (t - f) 100000000000 ≡ d → measured p ≡ elapsed f t
-      go true e d g = rw (← q) (simp e)
-      go false e true g = rw (← q) (simp (e, g))
-      go false e false g =
-          let k : 100000000000 ≤ t - f = ltb-false (t - f) 100000000000 g in
-          rw (← q) (simp (e, g, lt-leb ((t - f) / 10000) 65535 (omega arith)))
-
-  pub by_deadline : (d : ℕ) → d ≤ 65535 → (p : Elapsed Nanos) → span_of f t ≡ p → due d p ≡ overdue_of f t d
-  unfolding span_of overdue_of
-  by_deadline d m p q = go (leb 1 d) refl (ltb t f) refl (ltb (t - f) 100000000000) refl
-    where
-      same : (a b x y : ℕ) → (a ≤ b → x ≤ y) → (x ≤ y → a ≤ b) → leb a b ≡ leb x y
-      same a b x y u v = two (leb a b) refl
-        where
-          two : (w : Bool) → leb a b ≡ w → leb a b ≡ leb x y
-          two true e = e ∙ sym (le-leb x y (u (leb-true a b e)))
-          two false e = other (leb x y) refl
-            where
-              other : (z : Bool) → leb x y ≡ z → leb a b ≡ leb x y
-              other true h =
-                  let k : a ≤ b = v (leb-true x y h) in
-                  let l : b < a = leb-false a b e in
-                  let z : ⊥ = omega arith in absurd z
-              other false h = e ∙ sym h
-
-      go : (o : Bool) → leb 1 d ≡ o → (b : Bool) → ltb t f ≡ b → (w : Bool) → ltb (t - f) 100000000000 ≡ w → due d p ≡ overdue_of f t d
-      go false o true e w g = rw (← q) (simp (o, e))
-      go false o false e true g = rw (← q) (simp (o, e, g))
-      go false o false e false g = rw (← q) (simp (o, e, g))
-      go true o true e w g =
-          let h : 1 ≤ d = leb-true 1 d o in
-          let k : t < f = ltb-true t f e in
-          rw (← q) (simp (o, e, lt-leb (f + d * 1000000) t (omega arith)))
-      go true o false e true g =
-          let k : f ≤ t = ltb-false t f e in
-          let x : leb d (min ((t - f) / 1000000) 65535) ≡ leb (f + d * 1000000) t
-          = same d (min ((t - f) / 1000000) 65535) (f + d * 1000000) t (λ u. omega arith) (λ u. omega arith) in
-          rw (← q) (simp (o, e, g, x))
-      go true o false e false g =
-          let k : 100000000000 ≤ t - f = ltb-false (t - f) 100000000000 g in
-          rw (← q) (simp (o, e, g, le-leb (f + d * 1000000) t (omega arith)))
+pub too_far : (n : ℕ) → 18446744073709551615 < n → Elapsed.TooFar ≡ ticks_of n
+unfolding ticks_of
+too_far n h = simp (lt-leb (n / 10000) 65535 (omega arith))
 
 -- ticks say where the later time lies
-pub within : (f t k : ℕ) → elapsed f t ≡ Elapsed.Within (record { 0 = k }) → (f + k * 10000 ≤ t) × (t < f + k * 10000 + 10000)
+pub within : (f t k : ℕ) → elapsed f t ≡ Elapsed.Ticks (record { 0 = k }) → (f + k * 10000 ≤ t) × (t < f + k * 10000 + 10000)
 unfolding elapsed ticks_of
 within f t k h = go (ltb t f) refl (leb ((t - f) / 10000) 65535) refl
   where
@@ -131,21 +50,6 @@ unfolding recovered_of
 recovered_exact h k s n m = omega arith
 
 -- so it is never after the measured time and less than 10,000 ns before it, across a second's edge too
-pub recovered_within : (h t : Time) (k : ℕ) → h.sec ≤ 281474976710655 → h.nano ≤ 999999999 → k ≤ 65535 → elapsed (ns h) (ns t) ≡ Elapsed.Within (record { 0 = k })
+pub recovered_within : (h t : Time) (k : ℕ) → h.sec ≤ 281474976710655 → h.nano ≤ 999999999 → k ≤ 65535 → elapsed (ns h) (ns t) ≡ Elapsed.Ticks (record { 0 = k })
     → (ns (recovered_of h k) ≤ ns t) × (ns t < ns (recovered_of h k) + 10000)
 recovered_within h t k s n m e = rw (recovered_exact h k s n m) (within (ns h) (ns t) k e)
-
--- the two cases of the code: the seconds fit 64 bits, or are cut there
-pub recovered_fits : (h : Time) (k p : ℕ) → p ≡ k * 10000 → h.sec + (h.nano + p) / 1000000000 ≤ 18446744073709551615
-    → ◌≡◌ {A = Time} (record { sec = h.sec + (h.nano + p) / 1000000000; nano = (h.nano + p) % 1000000000 }) (recovered_of h k)
-unfolding recovered_of
-recovered_fits h k p e f =
-    let m : h.sec + (h.nano + p) / 1000000000 ≡ min (h.sec + (h.nano + p) / 1000000000) 18446744073709551615 = omega arith in
-    rw (← e) (ap (λ (s : ℕ). record { sec = s; nano = (h.nano + p) % 1000000000 }) m)
-
-pub recovered_cut : (h : Time) (k p : ℕ) → p ≡ k * 10000 → 18446744073709551615 < h.sec + (h.nano + p) / 1000000000
-    → ◌≡◌ {A = Time} (record { sec = 18446744073709551615; nano = (h.nano + p) % 1000000000 }) (recovered_of h k)
-unfolding recovered_of
-recovered_cut h k p e f =
-    let m : 18446744073709551615 ≡ min (h.sec + (h.nano + p) / 1000000000) 18446744073709551615 = omega arith in
-    rw (← e) (ap (λ (s : ℕ). record { sec = s; nano = (h.nano + p) % 1000000000 }) m)

@@ -7,6 +7,7 @@ use Rattle.codec.proofs.field.read_ident.Reads as read-ident
 use Rattle.codec.proofs.field.read_load.Reads as read-load
 use Rattle.codec.proofs.field.read_item.Reads as read-item
 use Rattle.codec.proofs.header.read_header.Reads as read-header
+use Rattle.codec.proofs.header.time_at.Reads as time-at
 use Rattle.codec.proofs.ident.KindTryFromU8.try_from.Reads as kind-in
 use Rattle.codec.proofs.ident.kind_of.Reads as kind-of
 use Rattle.codec.proofs.ident.can_zero.Reads as can-zero
@@ -56,6 +57,9 @@ read_load_unique κs a r r' x x' p q = p ∙ sym q
 
 pub read_item_unique : (κs : _) (a : _) (r r' : _) (x x' : _) → read-item.Post κs a r x → read-item.Post κs a r' x' → r ≡ r'
 read_item_unique κs a r r' x x' p q = p ∙ sym q
+
+pub time_at_unique : (κs : _) (a : _) (r r' : _) (x x' : _) → time-at.Post κs a r x → time-at.Post κs a r' x' → r ≡ r'
+time_at_unique κs a r r' x x' p q = p ∙ sym q
 
 pub read_header_unique : (κs : _) (a : _) (r r' : _) (x x' : _) → read-header.Post κs a r x → read-header.Post κs a r' x' → r ≡ r'
 read_header_unique κs a r r' x x' p q = p ∙ sym q

@@ -12,7 +12,6 @@ use Rattle.codec.specs.Header.{read_header}
 use Rattle.codec.specs.Time.{ns, elapsed, ticks_of, recovered_of}
 use Rattle.codec.proofs.PidLaws.{pid_of}
 use Rattle.codec.specs.declared.time.Time.{Time}
-use Rattle.codec.specs.declared.time.Ticks.{Ticks}
 use Rattle.codec.specs.declared.time.Elapsed.{Elapsed}
 use Rattle.codec.specs.declared.refusal.Refusal.TheVariants as Refusal
 use Rattle.codec.specs.declared.ident.Kind.TheVariants as Kind
@@ -96,15 +95,15 @@ unfolding read_ident read_lin lin_ident get_of fits word pid_ok even_parity odd_
 lin_broken = refl
 
 -- P2 to P5 (docs/RULES.md, "Worked examples") on the measure
-under_a_tick : elapsed 0 9999 ≡ Elapsed.Within (record { 0 = 0 })
+under_a_tick : elapsed 0 9999 ≡ Elapsed.Ticks (record { 0 = 0 })
 unfolding elapsed ticks_of
 under_a_tick = refl
 
-one_tick : elapsed 0 10000 ≡ Elapsed.Within (record { 0 = 1 })
+one_tick : elapsed 0 10000 ≡ Elapsed.Ticks (record { 0 = 1 })
 unfolding elapsed ticks_of
 one_tick = refl
 
-last_tick : elapsed 0 655359999 ≡ Elapsed.Within (record { 0 = 65535 })
+last_tick : elapsed 0 655359999 ≡ Elapsed.Ticks (record { 0 = 65535 })
 unfolding elapsed ticks_of
 last_tick = refl
 
@@ -112,7 +111,7 @@ too_far : elapsed 0 655360000 ≡ Elapsed.TooFar
 unfolding elapsed ticks_of
 too_far = refl
 
-over_the_second : elapsed (ns (record { sec = 9; nano = 999999000 })) (ns (record { sec = 10; nano = 9000 })) ≡ Elapsed.Within (record { 0 = 1 })
+over_the_second : elapsed (ns (record { sec = 9; nano = 999999000 })) (ns (record { sec = 10; nano = 9000 })) ≡ Elapsed.Ticks (record { 0 = 1 })
 unfolding elapsed ticks_of
 over_the_second = refl
 
@@ -122,13 +121,13 @@ backwards = refl
 
 -- a clock that stands still, and one set back by 1 ns, by 4 ms, by the most that is told, one nanosecond less and one more; over a
 -- second's edge, the nanosecond field falling and rising; by 111 seconds; from the last moment to the first
-abbrev from : Time → Time → Elapsed Ticks
+abbrev from : Time → Time → Elapsed
 from header now = elapsed (ns header) (ns now)
 
 abbrev at : ℕ → ℕ → Time
 at sec nano = record { sec = sec; nano = nano }
 
-abbrev by : ℕ → Elapsed Ticks
+abbrev by : ℕ → Elapsed
 by n = Elapsed.Backwards (record { 0 = n })
 
 steps_back :
@@ -137,7 +136,7 @@ steps_back :
     ∷ from (at 16 5) (at 15 3) ∷ from (at 16 3) (at 15 999999999) ∷ from (at 127 0) (at 16 0)
     ∷ from (at 281474976710655 999999999) (at 0 0)
     ∷ [])
-    ≡ Elapsed.Within (record { 0 = 0 }) ∷ by 1 ∷ by 4000000
+    ≡ Elapsed.Ticks (record { 0 = 0 }) ∷ by 1 ∷ by 4000000
     ∷ by 4294967295 ∷ by 4294967294 ∷ by 4294967295
     ∷ by 1000000002 ∷ by 4 ∷ by 4294967295
     ∷ by 4294967295

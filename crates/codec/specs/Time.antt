@@ -2,8 +2,6 @@
 use Rattle.std.specs.Prelude.{ℕ, ◌+◌, ◌-◌, ◌*◌, ◌/◌, ◌%◌, min, Bool, ◌&&◌, ltb, leb}
 use Rattle.codec.specs.Choice.{pick}
 use Rattle.codec.specs.declared.time.Time.{Time}
-use Rattle.codec.specs.declared.time.Ticks.{Ticks}
-use Rattle.codec.specs.declared.time.Nanos.{Nanos}
 use Rattle.codec.specs.declared.time.Elapsed.{Elapsed}
 
 -- all of a time in nanoseconds
@@ -16,8 +14,8 @@ time_ok t = leb t.sec 281474976710655 && leb t.nano 999999999
 
 -- ten-microsecond ticks, remainder dropped; too far where the offset would pass 65,535 (rules 1 and 2;
 -- SWS_Mirror_00065, SWS_Mirror_00066)
-unfoldable pub ticks_of : ℕ → Elapsed Ticks
-ticks_of n = pick (leb (n / 10000) 65535) (Elapsed.Within (record { 0 = n / 10000 })) Elapsed.TooFar
+unfoldable pub ticks_of : ℕ → Elapsed
+ticks_of n = pick (leb (n / 10000) 65535) (Elapsed.Ticks (record { 0 = n / 10000 })) Elapsed.TooFar
 
 -- whole milliseconds, cut at 65,535
 abbrev pub millis_of : ℕ → ℕ
@@ -29,14 +27,8 @@ behind_by f t = min (f - t) 4294967295
 
 -- the measure from a header time to a reading of the clock, both in nanoseconds: ticks, too far, or backwards by so many
 -- nanoseconds (rules 1 and 2; "A clock that steps back")
-unfoldable pub elapsed : ℕ → ℕ → Elapsed Ticks
+unfoldable pub elapsed : ℕ → ℕ → Elapsed
 elapsed f t = pick (ltb t f) (Elapsed.Backwards (record { 0 = behind_by f t })) (ticks_of (t - f))
-
--- the nanoseconds from f to t; from a hundred seconds on they are only far
-unfoldable pub span_of : ℕ → ℕ → Elapsed Nanos
-span_of f t =
-    pick (ltb t f) (Elapsed.Backwards (record { 0 = behind_by f t }))
-    (pick (ltb (t - f) 100000000000) (Elapsed.Within (record { 0 = t - f })) Elapsed.TooFar)
 
 -- t is D milliseconds or more after f, and D is not 0 (rule 6)
 unfoldable pub overdue_of : ℕ → ℕ → ℕ → Bool

@@ -2,7 +2,7 @@
 ghost use Rattle.std.specs.Prelude.{◌≡◌, ◌∷◌, [], ◌+◌, ◌≤◌, length};
 ghost use Rattle.codec.specs.Number.{Wrote, Laid};
 ghost use Rattle.codec.specs.Time.{time_ok};
-ghost use Rattle.codec.specs.Header.{header_bytes, read_header};
+ghost use Rattle.codec.specs.Header.{header_bytes, time_at, read_header};
 
 use crate::refusal::Refusal;
 use crate::time::Time;
@@ -40,8 +40,19 @@ pub fn write_header(out: &mut [u8], at: usize, h: Header) -> Option<usize>
     Some(d + 2)
 }
 
+// The time at an index, as a header has it, whatever else stands there. What is past the bytes counts as zero.
+#[tactic(auto, using(crate::proofs::HeaderLaws::nano_cut), unfolding(crate::specs::Header::time_at))]
+pub fn time_at(s: &[u8], at: usize) -> Time
+    ensures { result ≡ time_at s.now at }
+{
+    Time {
+        sec: crate::number::word_at(s, at, 6),
+        nano: crate::number::word_at(s, at.saturating_add(6), 4) as u32,
+    }
+}
+
 // 20 under 14 bytes, 21 version, 28 nanoseconds, 22 DataLength isn't the rest.
-#[tactic(auto, using(crate::proofs::NumberLaws::word_is), unfolding(crate::specs::Header::read_header))]
+#[tactic(auto, using(crate::proofs::NumberLaws::word_is), unfolding(crate::specs::Header::read_header, crate::specs::Header::time_at))]
 pub fn read_header(s: &[u8]) -> Result<Header, Refusal>
     ensures { result ≡ read_header s.now }
 {
@@ -51,8 +62,8 @@ pub fn read_header(s: &[u8]) -> Result<Header, Refusal>
     if s[0] != 1 {
         return Err(Refusal::Version);
     }
-    let nano = crate::number::word_at(s, 8, 4);
-    if 999999999 < nano {
+    let time = time_at(s, 2);
+    if 999999999 < time.nano {
         return Err(Refusal::Nanos);
     }
     let length = crate::number::word_at(s, 12, 2);
@@ -61,10 +72,7 @@ pub fn read_header(s: &[u8]) -> Result<Header, Refusal>
     }
     Ok(Header {
         sequence: s[1],
-        time: Time {
-            sec: crate::number::word_at(s, 2, 6),
-            nano: nano as u32,
-        },
+        time,
         length: length as u16,
     })
 }

@@ -1,7 +1,7 @@
 // Times, and the three kinds of number that count them. A tick is ten microseconds.
-ghost use Rattle.std.specs.Prelude.{◌≡◌, ◌*◌, min};
+ghost use Rattle.std.specs.Prelude.{◌≡◌, ◌*◌};
 ghost use Rattle.codec.specs.Number.{Below};
-ghost use Rattle.codec.specs.Time.{ns, time_ok, ticks_of, millis_of, span_of, elapsed, overdue_of, recovered_of};
+ghost use Rattle.codec.specs.Time.{ns, time_ok, ticks_of, millis_of, elapsed, overdue_of, recovered_of};
 
 #[derive(Clone, Copy)]
 pub struct Ticks(pub u16);
@@ -18,11 +18,10 @@ pub struct Time {
     pub nano: u32,
 }
 
-// The time from one reading to another, in numbers that do not reach as far as a clock does. Backwards by so many
-// nanoseconds, from 1 on.
+// Backwards by so many nanoseconds, from 1 on.
 #[derive(Clone, Copy)]
-pub enum Elapsed<T> {
-    Within(T),
+pub enum Elapsed {
+    Ticks(Ticks),
     TooFar,
     Backwards(Nanos),
 }
@@ -34,12 +33,12 @@ pub fn in_range(t: Time) -> bool
 }
 
 #[tactic(auto, unfolding(crate::specs::Time::ticks_of))]
-pub fn ticks_of_nanos(n: Nanos) -> Elapsed<Ticks>
+pub fn ticks_of_nanos(n: Nanos) -> Elapsed
     ensures { result ≡ ticks_of n.0 }
 {
     let t = n.0 / 10000;
     if t <= 65535 {
-        Elapsed::Within(Ticks(t as u16))
+        Elapsed::Ticks(Ticks(t as u16))
     } else {
         Elapsed::TooFar
     }
@@ -56,12 +55,7 @@ pub fn nanos_of_ticks(t: Ticks) -> Nanos
 pub fn millis_of_nanos(n: Nanos) -> Millis
     ensures { Below (millis_of n.0) 65536 result.0 }
 {
-    let m = n.0 / 1000000;
-    if m <= 65535 {
-        Millis(m as u16)
-    } else {
-        Millis(65535)
-    }
+    Millis((n.0 / 1000000).min(65535) as u16)
 }
 
 pub fn nanos_of_millis(m: Millis) -> Nanos
@@ -70,109 +64,44 @@ pub fn nanos_of_millis(m: Millis) -> Nanos
     Nanos(m.0 as u64 * 1000000)
 }
 
-// The most that is told of a clock that stepped back.
-fn cut(n: Nanos) -> Nanos
-    ensures { result.0 ≡ min n.0 4294967295 }
+// All of a time, whatever its fields hold: 128 bits hold any two and their difference.
+fn whole(t: Time) -> u128
+    ensures { result ≡ ns t }
 {
-    if n.0 <= 4294967295 {
-        n
-    } else {
-        Nanos(4294967295)
-    }
+    u128::from(t.sec) * 1000000000 + u128::from(t.nano)
 }
 
-// Both counted from one second, so that the difference fits 64 bits. Past a hundred seconds no rule asks how long.
-#[tactic(auto, using(crate::proofs::TimeLaws::back, crate::proofs::TimeLaws::near, crate::proofs::TimeLaws::far))]
-fn between(a: Nanos, b: Nanos) -> Elapsed<Nanos>
-    ensures { result ≡ span_of a.0 b.0 }
-{
-    let x = a.0;
-    let y = b.0;
-    if y < x {
-        return Elapsed::Backwards(cut(Nanos(x - y)));
-    }
-    if y - x < 100000000000 {
-        Elapsed::Within(Nanos(y - x))
-    } else {
-        Elapsed::TooFar
-    }
-}
-
-// Seconds far apart settle the answer, whatever the nanosecond fields hold.
-#[tactic(auto, using(crate::proofs::TimeLaws::back, crate::proofs::TimeLaws::far, crate::proofs::TimeLaws::shift))]
-fn apart(from: Time, to: Time) -> Elapsed<Nanos>
-    ensures { result ≡ span_of (ns from) (ns to) }
-{
-    let s = from.sec;
-    let t = to.sec;
-    if s <= t {
-        let d = t - s;
-        if 110 < d {
-            return Elapsed::TooFar;
-        }
-        between(
-            Nanos(from.nano as u64),
-            Nanos(d * 1000000000 + to.nano as u64),
-        )
-    } else {
-        let d = s - t;
-        if 110 < d {
-            return Elapsed::Backwards(Nanos(4294967295));
-        }
-        between(
-            Nanos(d * 1000000000 + from.nano as u64),
-            Nanos(to.nano as u64),
-        )
-    }
-}
-
-// From a header time to a reading of the clock.
-#[tactic(auto, using(crate::proofs::TimeLaws::by_span))]
-pub fn measure(from: Time, to: Time) -> Elapsed<Ticks>
+// From a header time to a reading of the clock. What is told of a clock that stepped back is cut at 32 bits.
+#[tactic(auto, using(crate::proofs::TimeLaws::too_far), unfolding(crate::specs::Time::elapsed))]
+pub fn measure(from: Time, to: Time) -> Elapsed
     ensures { result ≡ elapsed (ns from) (ns to) }
 {
-    match apart(from, to) {
-        Elapsed::Within(n) => ticks_of_nanos(n),
-        Elapsed::TooFar => Elapsed::TooFar,
-        Elapsed::Backwards(n) => Elapsed::Backwards(n),
+    let (f, t) = (whole(from), whole(to));
+    if t < f {
+        return Elapsed::Backwards(Nanos((f - t).min(4294967295) as u64));
+    }
+    match u64::try_from(t - f) {
+        Ok(n) => ticks_of_nanos(Nanos(n)),
+        Err(_) => Elapsed::TooFar,
     }
 }
 
 // The deadline, where there is one, has passed since the header time.
-#[tactic(auto, using(crate::proofs::TimeLaws::by_deadline))]
+#[tactic(auto, unfolding(crate::specs::Time::overdue_of))]
 pub fn overdue(from: Time, to: Time, deadline: Millis) -> bool
     ensures { result ≡ overdue_of (ns from) (ns to) deadline.0 }
 {
-    let most = deadline.0;
-    match apart(from, to) {
-        Elapsed::Within(n) => {
-            let m = millis_of_nanos(n);
-            (1 <= most) & (most <= m.0)
-        }
-        Elapsed::TooFar => 1 <= most,
-        Elapsed::Backwards(_) => false,
-    }
+    (1 <= deadline.0) & (whole(from) + u128::from(nanos_of_millis(deadline).0) <= whole(to))
 }
 
 // The time that an offset stands for. It may run into the second after the last one that a header can hold.
-#[tactic(auto, using(crate::proofs::TimeLaws::recovered_fits, crate::proofs::TimeLaws::recovered_cut))]
+#[tactic(auto, unfolding(crate::specs::Time::recovered_of))]
 pub fn recovered(header: Time, offset: Ticks) -> Time
     ensures { result ≡ recovered_of header offset.0 }
 {
-    let past = nanos_of_ticks(offset);
-    let n = header.nano as u64 + past.0;
-    let sec = header.sec;
-    let more = n / 1000000000;
-    let nano = (n % 1000000000) as u32;
-    if sec <= 18446744073709551615 - more {
-        Time {
-            sec: sec + more,
-            nano,
-        }
-    } else {
-        Time {
-            sec: 18446744073709551615,
-            nano,
-        }
+    let n = header.nano as u64 + nanos_of_ticks(offset).0;
+    Time {
+        sec: header.sec.saturating_add(n / 1000000000),
+        nano: (n % 1000000000) as u32,
     }
 }

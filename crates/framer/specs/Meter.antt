@@ -57,19 +57,19 @@ empty_meter size room deadline = record {
 }
 
 -- the time since the header fits an offset
-abbrev pub is_within : Elapsed Ticks → Bool
-is_within (Elapsed.Within t) = true
+abbrev pub is_within : Elapsed → Bool
+is_within (Elapsed.Ticks t) = true
 is_within Elapsed.TooFar = false
 is_within (Elapsed.Backwards n) = false
 
-abbrev pub ticks_in : Elapsed Ticks → Ticks
-ticks_in (Elapsed.Within t) = t
+abbrev pub ticks_in : Elapsed → Ticks
+ticks_in (Elapsed.Ticks t) = t
 ticks_in Elapsed.TooFar = record { 0 = 0 }
 ticks_in (Elapsed.Backwards n) = record { 0 = 0 }
 
 -- how far the clock is behind the header
-abbrev pub back_in : Elapsed Ticks → Nanos
-back_in (Elapsed.Within t) = record { 0 = 0 }
+abbrev pub back_in : Elapsed → Nanos
+back_in (Elapsed.Ticks t) = record { 0 = 0 }
 back_in Elapsed.TooFar = record { 0 = 0 }
 back_in (Elapsed.Backwards n) = n
 

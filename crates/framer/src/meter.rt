@@ -73,22 +73,22 @@ pub(crate) fn empty_meter(size: usize, room: usize, deadline: Millis) -> Meter
     }
 }
 
-fn is_within(e: Elapsed<Ticks>) -> bool
+fn is_within(e: Elapsed) -> bool
     ensures { result ≡ is_within e }
 {
-    matches!(e, Elapsed::Within(_))
+    matches!(e, Elapsed::Ticks(_))
 }
 
-fn ticks_in(e: Elapsed<Ticks>) -> Ticks
+fn ticks_in(e: Elapsed) -> Ticks
     ensures { result ≡ ticks_in e }
 {
     match e {
-        Elapsed::Within(t) => t,
+        Elapsed::Ticks(t) => t,
         _ => Ticks(0),
     }
 }
 
-fn back_in(e: Elapsed<Ticks>) -> Nanos
+fn back_in(e: Elapsed) -> Nanos
     ensures { result ≡ back_in e }
 {
     match e {

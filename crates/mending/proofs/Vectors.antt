@@ -3,8 +3,8 @@ use Prim.Native.Nat.{ℕ}
 use mathlib.Core.Path.{◌≡◌, refl}
 use mathlib.Core.List.{List, [], ◌∷◌, ◌++◌}
 use Rattle.codec.specs.Number.{word, word_at, fits}
-use Rattle.codec.specs.Header.{read_header}
-use Rattle.reader.specs.Frame.{judge_of, time_at}
+use Rattle.codec.specs.Header.{read_header, time_at}
+use Rattle.reader.specs.Frame.{judge_of}
 use Rattle.recording.specs.File.{complete, along, fields_of, left_of, frame_found, note_found, start_found, verdict, keeps, findings_of}
 use Rattle.text.specs.Put.{decimals, decimal_of}
 use Rattle.text.specs.Draft.{row_of}

@@ -1,4 +1,3 @@
-pub mod TimeLaws
 pub mod ItemsLaws
 pub mod AnswerLaws
 pub mod AlongLaws

@@ -14,7 +14,7 @@ use Rattle.codec.specs.Number.{Bytes}
 use Rattle.codec.specs.Time.{recovered_of}
 use Rattle.codec.specs.Item.{encode}
 use Rattle.codec.specs.Field.{read_item, bytes_at}
-use Rattle.codec.specs.Header.{read_header, header_bytes}
+use Rattle.codec.specs.Header.{read_header, header_bytes, time_at}
 use Rattle.codec.specs.Layout.{Entry, Head, AllValid, body, layout}
 use Rattle.codec.specs.declared.time.Time.{Time}
 use Rattle.codec.specs.declared.header.Header.{Header}
@@ -30,7 +30,7 @@ use Rattle.reader.proofs.AlongLaws.{walk_end, walk_item, items_end, items_item, 
 use Rattle.reader.proofs.FrameLaws.{accepted, all_along, laid_length, body-length}
 use Rattle.reader.specs.declared.place.Stepped.{Stepped}
 use Rattle.codec.specs.declared.refusal.Refusal.{Refusal}
-use Rattle.reader.specs.Frame.{resolved, walk_of, items_of, starts_of, Clean, judge_of, laid_out, step_of, payload_of, payload_at_of, item_at_of, time_at, time_in}
+use Rattle.reader.specs.Frame.{resolved, walk_of, items_of, starts_of, Clean, judge_of, laid_out, step_of, payload_of, payload_at_of, item_at_of, time_in}
 use Rattle.reader.specs.Listing.{stepping, listing, places_of, among, Framed}
 
 -- the bytes from a place on are the layout of the items read there, and each item is valid

@@ -13,7 +13,6 @@ use Rattle.reader.proofs.place.payload_at.Reads as payload-at
 use Rattle.reader.proofs.copy.rewrite.Reads as rewrite
 use Rattle.reader.proofs.copy.U8FromRewriteError.from.Reads as number
 use Rattle.reader.proofs.copy.RewriteErrorFromRefusal.from.Reads as refused
-use Rattle.reader.proofs.place.time_at.Reads as time-at
 
 pub judge_unique : (κs : _) (a : _) (r r' : _) (x x' : _) → judge.Post κs a r x → judge.Post κs a r' x' → r ≡ r'
 judge_unique κs a r r' x x' p q = p ∙ sym q
@@ -38,9 +37,6 @@ number_unique κs a r r' x x' p q = p ∙ sym q
 
 pub refused_unique : (κs : _) (a : _) (r r' : _) (x x' : _) → refused.Post κs a r x → refused.Post κs a r' x' → r ≡ r'
 refused_unique κs a r r' x x' p q = p ∙ sym q
-
-pub time_at_unique : (κs : _) (a : _) (r r' : _) (x x' : _) → time-at.Post κs a r x → time-at.Post κs a r' x' → r ≡ r'
-time_at_unique κs a r r' x x' p q = p ∙ sym q
 
 -- of any error whose own number is one
 answer_one : {T E : Type 0} {converts : E → ℕ → Type 0} (r : Result T E) (m n : ℕ) → ((why : E) (m n : ℕ) → converts why m → converts why n → m ≡ n)

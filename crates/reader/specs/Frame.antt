@@ -1,10 +1,10 @@
 -- Reading a frame (docs/RULES.md, "Reading a frame"): the verdict on the whole, then header, items and payloads.
-use Rattle.std.specs.Prelude.{ℕ, zero, suc, ◌+◌, ◌-◌, ◌≡◌, Bool, false, ◌||◌, List, [], ◌∷◌, length, leb, eqb, Option, Some, None, Result, Ok, Err, ⊤}
+use Rattle.std.specs.Prelude.{ℕ, zero, suc, ◌-◌, ◌≡◌, Bool, false, ◌||◌, List, [], ◌∷◌, length, leb, eqb, Option, Some, None, Result, Ok, Err, ⊤}
 use Rattle.codec.specs.Choice.{pick, then}
-use Rattle.codec.specs.Number.{word_at, over}
+use Rattle.codec.specs.Number.{over}
 use Rattle.codec.specs.Time.{recovered_of}
 use Rattle.codec.specs.Field.{read_item, bytes_at}
-use Rattle.codec.specs.Header.{read_header}
+use Rattle.codec.specs.Header.{read_header, time_at}
 use Rattle.codec.specs.Layout.{Entry, layout}
 use Rattle.codec.specs.declared.time.Time.{Time}
 use Rattle.codec.specs.declared.refusal.Refusal.{Refusal}
@@ -46,10 +46,6 @@ Clean s at = walk_of s at ≡ Ok tt
 -- the header first, then the items from place 14
 unfoldable pub judge_of : List ℕ → Result Header Refusal
 judge_of s = then (read_header s) (λ h. then (walk_of s 14) (λ clean. Ok h))
-
--- the time at an index, as a header has it: seconds (6), nanoseconds (4)
-unfoldable pub time_at : List ℕ → ℕ → Time
-time_at s at = record { sec = word_at 6 s at; nano = word_at 4 s (at + 6) }
 
 -- the header time
 abbrev pub time_in : List ℕ → Time

@@ -11,4 +11,4 @@ pub use answer::number;
 pub use copy::{RewriteError, rewrite};
 pub use frame::judge;
 pub use items::Items;
-pub use place::{Stepped, item_at, payload, payload_at, step, time_at};
+pub use place::{Stepped, item_at, payload, payload_at, step};

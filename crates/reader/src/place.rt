@@ -1,6 +1,6 @@
 // One item at a place, and its payload as that very part of the caller's frame.
 ghost use Rattle.std.specs.Prelude.{◌≡◌};
-ghost use Rattle.reader.specs.Frame.{time_at, starts_of, item_at_of, payload_at_of, step_of, payload_of};
+ghost use Rattle.reader.specs.Frame.{starts_of, item_at_of, payload_at_of, step_of, payload_of};
 
 use crate::items::Items;
 use codec::item::Item;
@@ -16,17 +16,6 @@ pub struct Stepped {
     pub length: usize,
 }
 
-// The time at an index, as a header has it, whatever else stands there. What is past the bytes counts as zero.
-#[tactic(auto, using(crate::proofs::TimeLaws::nano_cut), unfolding(crate::specs::Frame::time_at))]
-pub fn time_at(s: &[u8], at: usize) -> Time
-    ensures { result ≡ time_at s.now at }
-{
-    Time {
-        sec: codec::number::word_at(s, at, 6),
-        nano: codec::number::word_at(s, at.saturating_add(6), 4) as u32,
-    }
-}
-
 // Reads at a place without judging the frame: for a listing that judged it once. The end has no item.
 #[tactic(auto, unfolding(crate::specs::Frame::item_at_of))]
 pub fn item_at(frame: &[u8], place: usize) -> Result<Option<Stepped>, Refusal>
@@ -38,7 +27,7 @@ pub fn item_at(frame: &[u8], place: usize) -> Result<Option<Stepped>, Refusal>
     let decoded = codec::field::read_item(frame, place)?;
     Ok(Some(Stepped {
         next: decoded.next,
-        time: codec::time::recovered(time_at(frame, 2), decoded.item.offset),
+        time: codec::time::recovered(codec::header::time_at(frame, 2), decoded.item.offset),
         item: decoded.item,
         length: decoded.len,
     }))

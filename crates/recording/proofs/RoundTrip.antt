@@ -20,7 +20,8 @@ use Rattle.codec.proofs.BoolLaws.{and_l, and_r}
 use Rattle.codec.proofs.NumberLaws.{word_is}
 use Rattle.codec.proofs.Stands.{val-be, bytes_part, word_stands, part_back}
 use Rattle.codec.proofs.Stands.{join as join_Stands}
-use Rattle.reader.specs.Frame.{judge_of, resolved, time_at}
+use Rattle.codec.specs.Header.{time_at}
+use Rattle.reader.specs.Frame.{judge_of, resolved}
 use Rattle.recording.specs.declared.error.RecordError.{RecordError}
 use Rattle.recording.specs.File.{Raw, length_in, size_in, complete, first, fields_of, left_of, frame_found, note_found, start_in, start_found, verdict, keeps, finding_of, findings_of}
 use Rattle.recording.specs.Write.{field_bytes, start_bytes, frame_answer, note_answer, start_answer}

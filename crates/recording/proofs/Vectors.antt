@@ -7,9 +7,9 @@ use Rattle.recording.specs.declared.error.RecordError.{RecordError}
 use Rattle.recording.specs.declared.field.Found.{Found}
 use Rattle.std.specs.Prelude.{Ok, Err}
 use Rattle.codec.specs.Number.{word, word_at, fits}
-use Rattle.codec.specs.Header.{read_header}
+use Rattle.codec.specs.Header.{read_header, time_at}
 use Rattle.codec.specs.declared.refusal.Refusal.{Refusal}
-use Rattle.reader.specs.Frame.{judge_of, time_at}
+use Rattle.reader.specs.Frame.{judge_of}
 
 -- an empty file
 pub empty : listing_of [] ≡ record { findings = []; answer = Ok tt; skipped = 0 }

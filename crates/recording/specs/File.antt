@@ -3,7 +3,8 @@
 use Rattle.std.specs.Prelude.{ℕ, zero, suc, ◌+◌, ◌*◌, min, Bool, ◌&&◌, ◌||◌, List, [], ◌∷◌, map, length, take, drop, get_or, ltb, leb, eqb, Result, Ok, Err, ⊤}
 use Rattle.codec.specs.Choice.{pick}
 use Rattle.codec.specs.declared.time.Time.{Time}
-use Rattle.reader.specs.Frame.{judge_of, resolved, time_at}
+use Rattle.codec.specs.Header.{time_at}
+use Rattle.reader.specs.Frame.{judge_of, resolved}
 use Rattle.recording.specs.declared.error.RecordError.{RecordError}
 use Rattle.recording.specs.declared.field.Found.{Found}
 

@@ -48,7 +48,7 @@ fn note(length: u16) -> Result<Found, RecordError>
 fn start(length: u16, body: &[u8]) -> Result<Found, RecordError>
     ensures { result ≡ start_found length body.now }
 {
-    let t = reader::time_at(body, 0);
+    let t = codec::header::time_at(body, 0);
     if length != 10 || 999999999 < t.nano {
         return Err(RecordError::Start);
     }

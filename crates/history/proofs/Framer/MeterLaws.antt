@@ -102,7 +102,7 @@ not_within h t = go (ltb t h) (leb ((t - h) / 10000) 65535) refl refl
     go true b e g = rw e
     go false b e g = rw (e, ← not-leb ((t - h) / 10000) 65535, g) (two b)
       where
-        two : (b : Bool) → not (is_within (pick b (Elapsed.Within (record { 0 = (t - h) / 10000 })) Elapsed.TooFar)) ≡ not b
+        two : (b : Bool) → not (is_within (pick b (Elapsed.Ticks (record { 0 = (t - h) / 10000 })) Elapsed.TooFar)) ≡ not b
         two true = refl
         two false = refl
 
