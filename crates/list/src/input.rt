@@ -6,7 +6,7 @@ use std::io;
 use std::io::{Read, Write};
 use text::draft::Draft;
 
-// The fields that end in this piece, each as long as the job finds it, and then nothing is held back: who watches sees what was read.
+// The fields that end in this piece, and then nothing is held back: who watches sees what was read.
 fn take<W: Write, J: Job>(
     output: &mut W,
     job: &mut J,
