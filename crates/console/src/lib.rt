@@ -11,7 +11,8 @@ pub use failure::{Failure, ended};
 use std::io;
 use std::io::{ErrorKind, Write};
 
-// Stops at the first write that fails or takes nothing: what is there is then whole up to it.
+// Stops at the first write that fails or takes nothing: what is there is then whole up to it. The library's own `write_all`
+// does not say what an error left behind.
 pub fn write_all<W: Write>(to: &mut W, bytes: &[u8]) -> io::Result<()>
     ensures all { OnOk result (Appends (W.contents to.old) (W.contents to.new) bytes.now) }
     ensures front { OnErr result (AppendsFront (W.contents to.old) (W.contents to.new) bytes.now) }

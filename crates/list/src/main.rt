@@ -2,46 +2,29 @@
 // program behind three names.
 #![tactic(auto)]
 
+mod checker;
 mod input;
 mod job;
+mod lister;
+mod mender;
 
-use crate::job::Job;
+use crate::checker::Checker;
+use crate::input::run;
+use crate::lister::Lister;
+use crate::mender::Mender;
 use std::process::ExitCode;
 use std::rt::Env;
 
-fn called(word: &[u8]) -> Job {
-    if text::line::same(word, b"check") {
-        return Job::Check;
-    }
-    if text::line::same(word, b"mend") {
-        return Job::Mend;
-    }
-    Job::List
-}
-
-// The first argument, where it is one of the other two names.
-fn wanted(env: &impl Env) -> Job {
-    let mut name = [0u8; 4096];
-    match env.arg(1, &mut name) {
-        Ok(n) => called(&name[..n]),
-        Err(_) => Job::List,
-    }
-}
-
-// What is kept from piece to piece is lent from here, since there is no heap: the body of the field under way, the
-// whole of it for who mends, and what is not yet written.
+// The first argument tells, where it is one of the other two names. What is kept from piece to piece is lent from here,
+// since there is no heap.
 fn main(rt: HostRuntime) -> ExitCode {
-    let mut body = [0u8; 1472];
-    let mut hold = [0u8; 65538];
-    let mut out = [0u8; 131328];
-    let end = input::run(
-        &mut rt.stdin(),
-        &mut rt.stdout(),
-        &mut rt.stderr(),
-        wanted(&rt),
-        &mut body,
-        &mut hold,
-        &mut out,
-    );
+    let mut name = [0u8; 4096];
+    let n = rt.arg(1, &mut name).unwrap_or(0);
+    let (mut input, mut output, mut errors) = (rt.stdin(), rt.stdout(), rt.stderr());
+    let end = match text::part::front(&name, n) {
+        b"check" => run(&mut input, &mut output, &mut errors, &mut Checker::new()),
+        b"mend" => run(&mut input, &mut output, &mut errors, &mut Mender::new()),
+        _ => run(&mut input, &mut output, &mut errors, &mut Lister::new()),
+    };
     console::ended(&rt, end)
 }

@@ -8,7 +8,7 @@ use lib.Dec.{ltb, leb, eqb}
 use borrow.Author.Tests.{le-leb, ltb-false}
 use Rattle.codec.specs.Choice.{pick}
 use Rattle.codec.specs.Field.{bytes_at}
-use Rattle.recording.specs.File.{Finding, Listing, verdict, keeps, frame_found, note_found, start_in, start_found}
+use Rattle.recording.specs.File.{Finding, Listing, verdict, keeps, frame_found, note_found, start_in, start_found, short_of}
 use Rattle.recording.specs.Pieces.{fresh, next_of, kept_of, ends_of, place_of, used_of, buffer_of, size_of, found_of, length_of}
 use Rattle.recording.specs.Calls.{noted, on_piece, on_pieces, join}
 use Rattle.recording.specs.declared.pieces.Place.{Place}
@@ -29,7 +29,7 @@ lines_split m (f ∷ fs) gs =
 
 -- a body that was not kept is not shown either
 shown_kept : (m : Option Time) (tag n : ℕ) (b x : List ℕ) → found_lines m tag n (verdict tag n b) (pick (keeps tag n) x []) ≡ found_lines m tag n (verdict tag n b) x
-unfolding verdict keeps frame_found note_found start_found
+unfolding verdict keeps frame_found note_found start_found short_of
 shown_kept m tag n b x = go (eqb tag 1) refl (eqb tag 2) refl (eqb tag 3) refl (ltb 1472 n) refl
   where
     start : (w : Bool) → (eqb n 10 && leb (start_in b).nano 999999999) ≡ w → eqb tag 1 ≡ false → eqb tag 2 ≡ false → eqb tag 3 ≡ true

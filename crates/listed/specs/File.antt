@@ -1,9 +1,9 @@
 -- The lines of a whole recording (docs/SCRIPT.md, "The listing"), and those that the calls on its pieces come to.
-use Rattle.std.specs.Prelude.{ℕ, zero, suc, ⊤, Option, Some, None, Result, Ok, Err, List, [], ◌∷◌, ◌++◌, length, drop, eqb}
+use Rattle.std.specs.Prelude.{ℕ, zero, suc, Option, Some, None, List, [], ◌∷◌, ◌++◌, length, drop, eqb}
 use Rattle.codec.specs.Choice.{pick}
 use Rattle.codec.specs.declared.time.Time.{Time}
+use Rattle.reader.specs.Answer.{number_by}
 use Rattle.recording.specs.Error.{number_of}
-use Rattle.recording.specs.declared.error.RecordError.{RecordError}
 use Rattle.recording.specs.File.{Finding, Listing, listing_of}
 use Rattle.recording.specs.Pieces.{fresh, next_of, kept_of}
 use Rattle.recording.specs.Calls.{on_piece, on_pieces, told_of}
@@ -18,13 +18,9 @@ abbrev pub lines_of : Option Time → List Finding → List (List ℕ)
 lines_of m [] = []
 lines_of m (f ∷ fs) = found_lines m f.tag f.size f.found f.body ++ lines_of (after_of m f.found) fs
 
--- the answer at the end: 0, or the number of the error
-abbrev pub answer_of : Result ⊤ RecordError → ℕ
-answer_of (Ok x) = 0
-answer_of (Err why) = number_of why
-
+-- the answer at the end is 0, or the number of the error
 abbrev pub end_lines : Listing → List (List ℕ)
-end_lines l = end_line (answer_of l.answer) l.skipped ∷ []
+end_lines l = end_line (number_by number_of l.answer) l.skipped ∷ []
 
 -- all that is written of a file
 unfoldable pub listed_of : List ℕ → List (List ℕ)

@@ -1,9 +1,9 @@
 -- Laws of a fixed number of digits, over the base and the width. Assumes nothing.
 use Prim.Native.Nat.{ℕ, zero, suc, ◌-◌, ◌/◌, ◌%◌, ◌≤◌, ◌<◌}
 use mathlib.Core.Path.{◌≡◌, refl, sym, ◌∙◌, ap}
-use mathlib.Core.List.{List, [], ◌∷◌, ◌++◌, append_assoc, append-nil}
+use mathlib.Core.List.{List, [], ◌∷◌, ◌++◌, append_assoc}
 use native.Mathlib.Omega.{arith}
-use lib.ListN.{length, drop, set, length-append, length-set, drop_of_length-le}
+use lib.ListN.{length, drop, set, length-append, length-set}
 use Rattle.text.proofs.PutLaws.{stored}
 use Rattle.text.specs.Put.{capital_of}
 use Rattle.listing.specs.Line.{fixed_of}
@@ -20,9 +20,6 @@ pub record Fixing (base n v : ℕ) (out : List ℕ) (x i : ℕ) : Type 0 where
   pub most : i ≤ n
   pub size : length out ≡ n
   pub left : fixed_of base n v ≡ fixed_of base i x ++ drop i out
-
-pub fixing_first : (base n v : ℕ) (out : List ℕ) → length out ≡ n → Fixing base n v out v n
-fixing_first base n v out e = record { most = omega arith; size = e; left = rw (drop_of_length-le out {i = n} (omega arith), append-nil) }
 
 pub fixing_more : {base n v : ℕ} {out : List ℕ} {x i : ℕ} (b : ℕ) → Fixing base n v out x i → 0 < i → 1 ≤ base → base ≤ 16 → b ≡ capital_of (x % base % 16)
     → Fixing base n v (set out (i - 1) b) (x / base) (i - 1)

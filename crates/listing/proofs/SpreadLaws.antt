@@ -1,16 +1,12 @@
 -- Laws of a text that is made byte by byte, over what is made of a byte. Assumes nothing.
-use Prim.Native.Nat.{ℕ, suc, ◌+◌, ◌-◌, ◌*◌, ◌≤◌, ◌<◌}
+use Prim.Native.Nat.{ℕ, suc, ◌+◌, ◌*◌, ◌≤◌, ◌<◌}
 use mathlib.Core.Path.{◌≡◌, refl, sym, ◌∙◌, ap}
-use mathlib.Core.Bool.{true, false}
 use mathlib.Core.List.{List, [], ◌∷◌, ◌++◌}
 use native.Mathlib.Nat.{add-zero}
 use native.Mathlib.Numerals.{add-one}
 use native.Mathlib.Omega.{arith}
-use lib.Dec.{leb}
 use lib.ListN.{length, length-append, get_or, drop, set, drop_of_length-le}
 use lib.Seq.{drop-cons, sets, sets-eq}
-use borrow.Author.Tests.{le-leb, lt-leb}
-use Rattle.codec.specs.Number.{Sized}
 use Rattle.text.specs.Short.{Short}
 use Rattle.listing.specs.Line.{fixed_of, spread}
 use Rattle.listing.proofs.FixedLaws.{fixed_length}
@@ -39,9 +35,6 @@ pub record Spreading (f : ℕ → List ℕ) (l : List ℕ) (at : ℕ) (src out :
   pub size : length out ≡ length l
   pub next : at + length (spread f src) ≡ k + length (spread f (drop i src))
   pub left : sets l at (spread f src) ≡ sets out k (spread f (drop i src))
-
-pub spreading_first : (f : ℕ → List ℕ) (l : List ℕ) (at : ℕ) (src : List ℕ) → Spreading f l at src l 0 at
-spreading_first f l at src = record { most = omega arith; size = refl; next = refl; left = refl }
 
 module _ {f : ℕ → List ℕ} {l : List ℕ} {at : ℕ} {src out : List ℕ} {i k : ℕ} (g : Spreading f l at src out i k) where
   pub spreading_room : i < length src → at + length (spread f src) ≤ length l → k + length (f (get_or src i 0)) ≤ length out
@@ -80,28 +73,6 @@ module _ {f : ℕ → List ℕ} {l : List ℕ} {at : ℕ} {src out : List ℕ} {
 pub record Fitting (f : ℕ → List ℕ) (src : List ℕ) (room left i : ℕ) : Type 0 where
   pub most : i ≤ length src
   pub sum : length (spread f src) + left ≡ length (spread f (drop i src)) + room
-
-pub fitting_first : (f : ℕ → List ℕ) (src : List ℕ) (room : ℕ) → Fitting f src room room 0
-fitting_first f src room = record { most = omega arith; sum = refl }
-
-module _ {f : ℕ → List ℕ} {src : List ℕ} {room left i : ℕ} (g : Fitting f src room left i) where
-  pub fitting_more : {m n : ℕ} → i < length src → Sized (f (get_or src i 0)) m n → n ≤ left → Fitting f src room (left - n) (i + 1)
-  fitting_more {m} {n} h s q =
-      let u = g.sum in
-      let w = s.is in
-      rw (add-one i) record { most = omega arith; sum = omega (arith, next_length f src i h) }
-
-  pub fitting_none : {m n : ℕ} → i < length src → Sized (f (get_or src i 0)) m n → left < n → false ≡ leb (length (spread f src)) room
-  fitting_none {m} {n} h s q =
-      let u = g.sum in
-      let w = s.is in
-      sym (lt-leb (length (spread f src)) room (omega (arith, next_length f src i h)))
-
-  pub fitting_end : length src ≤ i → true ≡ leb (length (spread f src)) room
-  fitting_end h =
-      let u = g.sum in
-      let z : length (spread f (drop i src)) ≡ 0 = ap length (none_left f src i h) in
-      sym (le-leb (length (spread f src)) room (omega arith))
 
 -- two digits for each byte
 pub pairs-length : (bs : List ℕ) → length (spread (fixed_of 16 2) bs) ≡ 2 * length bs

@@ -20,7 +20,8 @@ pub(crate) fn fixed<const BASE: u64, const WIDTH: usize>(v: u64) -> [u8; WIDTH]
     digits
 }
 
-// Two digits for each byte.
+// Two digits for each byte. A note is laid by a loop like this one: a closure that writes over a lent slice would need a
+// longer clause than both.
 pub(crate) fn bytes(out: &mut [u8], at: usize, src: &[u8]) -> usize
     requires { at + 2 * length src.now ≤ length out.old }
     ensures { Short (2 * length src.now) out.old at (spread (fixed_of 16 2) src.now) out.new result }

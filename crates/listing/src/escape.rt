@@ -4,12 +4,12 @@ ghost use Rattle.codec.specs.Number.{Wrote, Sized};
 ghost use Rattle.text.specs.Short.{Short};
 ghost use Rattle.listing.specs.Line.{plain, escape_of, spread, note_fits, note_line};
 
-// A byte that stands for itself. A backslash (92) starts an escape, so it is escaped too.
+// A byte that stands for itself. A backslash starts an escape, so it is escaped too.
 #[tactic(auto, unfolding(crate::specs::Line::plain))]
 fn plain(b: u8) -> bool
     ensures { result ≡ plain b }
 {
-    (32 <= b) & (b <= 126) & (b != 92)
+    (b' '..=b'~').contains(&b) && b != b'\\'
 }
 
 #[tactic(auto, unfolding(crate::specs::Line::escape_of))]
@@ -19,7 +19,8 @@ fn width(b: u8) -> usize
     if plain(b) { 1 } else { 4 }
 }
 
-// A text behind what was laid before it, where there is room.
+// A text behind what was laid before it, where there is room. What may be long goes straight to the output: no draft has
+// room for it.
 pub(crate) fn lay(out: &mut [u8], at: usize, s: &[u8]) -> usize
     requires { at + length s.now ≤ length out.old }
     ensures { Short (length s.now) out.old at s.now out.new result }

@@ -36,6 +36,7 @@ pub fn start(out: &mut [u8], at: usize, t: Time) -> Option<usize>
     line.put(out, at)
 }
 
+// Any number is an answer here: an error in its place would ask more of a caller.
 pub fn refused(out: &mut [u8], at: usize, tag: u8, answer: u8) -> Option<usize>
     ensures { Wrote true out.old at (refused_line tag answer) out.new result }
 {
@@ -90,7 +91,6 @@ fn front(line: &mut Line, start: Option<Time>, t: Time, it: Item, n: usize)
 // A slice may be of any length, so the room is asked for first and the bytes are written straight to the
 // output.
 fn with_bytes(out: &mut [u8], at: usize, front: &[u8], src: &[u8]) -> Option<usize>
-    requires { length front.now ≤ 256 }
     ensures { Wrote true out.old at (front.now ++ spread (fixed_of 16 2) src.now ++ (10 ∷ [])) out.new result }
 {
     let room = out.len().checked_sub(at)?.checked_sub(front.len() + 1)?;

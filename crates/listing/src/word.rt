@@ -1,4 +1,5 @@
-// The words of a line, each after a space. They are put into a line that has room for them.
+// The words of a line, each after a space. They are put into a line that has room for them. No `Display`: the library says
+// what `write!` wrote where it ends well, and nothing says that it does.
 ghost use Rattle.std.specs.Prelude.{◌≡◌, [], ◌+◌, ◌%◌, ◌^◌, ◌≤◌, length};
 ghost use Rattle.codec.specs.Choice.{pick};
 ghost use Rattle.text.specs.Draft.{Adds};

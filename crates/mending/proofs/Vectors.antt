@@ -5,7 +5,7 @@ use mathlib.Core.List.{List, [], ◌∷◌, ◌++◌}
 use Rattle.codec.specs.Number.{word, word_at, fits}
 use Rattle.codec.specs.Header.{read_header, time_at}
 use Rattle.reader.specs.Frame.{judge_of}
-use Rattle.recording.specs.File.{complete, along, fields_of, left_of, frame_found, note_found, start_found, verdict, keeps, findings_of}
+use Rattle.recording.specs.File.{complete, along, fields_of, left_of, frame_found, note_found, start_found, short_of, verdict, keeps, findings_of}
 use Rattle.text.specs.Put.{decimals, decimal_of}
 use Rattle.text.specs.Draft.{row_of}
 use Rattle.mending.specs.Copy.{along_kept, copy_of}
@@ -19,12 +19,12 @@ damaged =
 
 -- the note, the tag 9 and the empty note stay
 pub copy_vector : copy_of damaged ≡ (2 ∷ 0 ∷ 2 ∷ 111 ∷ 107 ∷ []) ++ (9 ∷ 0 ∷ 1 ∷ 7 ∷ []) ++ (2 ∷ 0 ∷ 0 ∷ [])
-unfolding copy_of along_kept fields_of along complete verdict frame_found note_found start_found time_at keeps word word_at fits judge_of read_header
+unfolding copy_of along_kept fields_of along complete verdict frame_found note_found start_found short_of time_at keeps word word_at fits judge_of read_header
 copy_vector = refl
 
 pub check_vector : checked_of damaged
     ≡ good_line 2 2 ++ bad_line 1 20 1 ++ unknown_line 9 1 ++ bad_line 3 42 10 ++ good_line 2 0 ++ rest_text 2 ++ fields_line (record { good = 2; bad = 2 }) 1
-unfolding checked_of findings_of fields_of left_of along complete verdict frame_found note_found start_found time_at keeps word word_at fits judge_of read_header rest_text row_of decimal_of decimals
+unfolding checked_of findings_of fields_of left_of along complete verdict frame_found note_found start_found short_of time_at keeps word word_at fits judge_of read_header rest_text row_of decimal_of decimals
 check_vector = refl
 
 -- "bad 1 20 1"

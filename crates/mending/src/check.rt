@@ -71,7 +71,7 @@ pub fn rest(out: &mut [u8], at: usize, place: Place) -> Option<usize>
     if n == 0 {
         return codec::number::put_bytes(out, at, b"");
     }
-    Line::row(b"rest", &[40, n as u64]).put(out, at)
+    Line::row(b"rest", &[u8::from(RecordError::Cut) as u64, n as u64]).put(out, at)
 }
 
 // The last line. How many fields were unknown the place tells.

@@ -2,34 +2,18 @@
 use crate::engine::Made;
 use mirror::engine::Engine;
 use script::call::Call;
-use text::bytes::Bytes;
 
-// Which word the bytes are, a payload or a frame; 0 for a call without them.
-fn bytes_word(call: &Call) -> usize {
+// Which word the bytes are, a payload or a frame, of a call that has them.
+fn bytes_word(call: &Call) -> Option<usize> {
     match call {
-        Call::Read => 1,
-        Call::Step(_) => 2,
-        Call::Payload(_) => 2,
-        Call::Rewrite(_) => 2,
-        Call::Can {
-            source: _,
-            time: _,
-            key: _,
-        } => 5,
-        Call::Lin {
-            source: _,
-            time: _,
-            pid: _,
-            errors: _,
-        } => 6,
-        Call::FlexRay {
-            source: _,
-            time: _,
-            channels: _,
-            slot: _,
-            cycle: _,
-        } => 7,
-        _ => 0,
+        Call::Read => Some(1),
+        Call::Step(_) => Some(2),
+        Call::Payload(_) => Some(2),
+        Call::Rewrite(_) => Some(2),
+        Call::Can { .. } => Some(5),
+        Call::Lin { .. } => Some(6),
+        Call::FlexRay { .. } => Some(7),
+        _ => None,
     }
 }
 
@@ -67,12 +51,13 @@ pub(crate) fn answer(
     out: &mut [u8],
     at: usize,
 ) -> Made {
-    let call = script::call::parse(line);
-    let k = bytes_word(&call);
-    if k == 0 {
+    let Some(call) = script::call::parse(line) else {
+        return crate::engine::no_call(engine);
+    };
+    let Some(k) = bytes_word(&call) else {
         return crate::engine::make(engine, call, line, frame, out, at);
-    }
-    let Bytes::Are(n) = text::bytes::read(text::line::word(line, k), frame) else {
+    };
+    let Some(n) = text::bytes::read(text::line::word(line, k), frame) else {
         return crate::engine::no_call(engine);
     };
     with_bytes(engine, call, text::part::front(frame, n), out, at)

@@ -1,32 +1,28 @@
 // Calls of the engine. Each hands the engine on, since it is kept by value from line to line.
-ghost use Rattle.std.specs.Prelude.{◌≡◌, length};
-
-use codec::number::Put;
 use codec::time::Nanos;
 use framer::cause::Cause;
 use mirror::engine::{Engine, Outcome};
 use script::call::Call;
-use script::pairs::Pairs;
 
-// Nothing is put where the line is no call. The frame that a take handed out stands at the front of the
-// buffer of frames, so many bytes of it.
+// Where the answer ends: nothing is put where the line is no call. The frame that a take handed out stands at the front
+// of the buffer of frames, so many bytes of it.
 #[derive(Drop)]
 pub(crate) struct Made {
     pub(crate) engine: Engine,
-    pub(crate) put: Put,
-    pub(crate) taken: usize,
+    pub(crate) put: Option<usize>,
+    pub(crate) taken: Option<usize>,
 }
 
-pub(crate) fn answered(engine: Engine, put: Put) -> Made {
+pub(crate) fn answered(engine: Engine, put: Option<usize>) -> Made {
     Made {
         engine,
         put,
-        taken: 0,
+        taken: None,
     }
 }
 
 pub(crate) fn no_call(engine: Engine) -> Made {
-    answered(engine, Put::Nothing)
+    answered(engine, None)
 }
 
 fn fresh(out: &mut [u8], at: usize) -> Made {
@@ -77,32 +73,16 @@ fn take_in(engine: Engine, room: &mut [u8], frame: &mut [u8], out: &mut [u8], at
     Made {
         engine: outcome.engine,
         put: script::answer::taken(out, at, number(outcome.answer), length as u64, room),
-        taken: length,
+        taken: outcome.answer.ok(),
     }
-}
-
-// What a take leaves alone shows as EE. The length is promised for the part that is lent of it.
-fn untouched() -> [u8; 2048]
-    ensures { 2048 ≡ length result }
-{
-    [0xEE; 2048]
 }
 
 fn take(engine: Engine, size: usize, frame: &mut [u8], out: &mut [u8], at: usize) -> Made {
-    if 2048 < size {
-        return no_call(engine);
+    let mut room = crate::read::untouched::<2048>();
+    match room.get_mut(..size) {
+        Some(part) => take_in(engine, part, frame, out, at),
+        None => no_call(engine),
     }
-    let mut room = untouched();
-    take_in(engine, &mut room[..size], frame, out, at)
-}
-
-// The numbers that a line has, or all where it has more: a caller needs no bound on n.
-fn front(numbers: &[u32; 18], n: usize) -> &[u32] {
-    let all: &[u32] = numbers;
-    if all.len() <= n {
-        return all;
-    }
-    &all[..n]
 }
 
 fn setup(
@@ -115,10 +95,10 @@ fn setup(
     at: usize,
 ) -> Made {
     let mut numbers = [0u32; 18];
-    let Pairs::Are(n) = script::pairs::read(line, &mut numbers) else {
+    let Some(n) = script::pairs::read(line, &mut numbers) else {
         return no_call(engine);
     };
-    let outcome = engine.setup(size, room, deadline, front(&numbers, n));
+    let outcome = engine.setup(size, room, deadline, text::part::front(&numbers, n));
     done(outcome, out, at)
 }
 

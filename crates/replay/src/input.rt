@@ -1,6 +1,5 @@
 // The script in chunks, cut into lines.
 use crate::record::Taped;
-use codec::number::Put;
 use console::Failure;
 use mirror::engine::Engine;
 use std::io;
@@ -14,14 +13,11 @@ pub(crate) struct Ends<W, E> {
     pub(crate) recording: bool,
 }
 
-// The line being gathered: its number, how much of it is held, and whether it is too long to hold; and
-// whether the input is over.
+// The line being gathered: its number, and how much of it is held, unless it is too long to hold.
 #[derive(Clone, Copy)]
 struct Place {
     number: u64,
-    held: usize,
-    long: bool,
-    over: bool,
+    held: Option<usize>,
 }
 
 // What is kept from turn to turn; the engine starts before setup.
@@ -47,20 +43,17 @@ fn told_first(engine: Engine) -> Told {
     }
 }
 
-fn not_read(recording: bool, why: io::Error) -> Failure {
-    let what = if recording {
-        "record: reading"
-    } else {
-        "replay: reading"
-    };
-    Failure { what, why }
+enum Step {
+    Reading,
+    Writing,
 }
 
-fn not_written(recording: bool, why: io::Error) -> Failure {
-    let what = if recording {
-        "record: writing"
-    } else {
-        "replay: writing"
+fn failed(recording: bool, step: Step, why: io::Error) -> Failure {
+    let what = match (recording, step) {
+        (true, Step::Reading) => "record: reading",
+        (true, Step::Writing) => "record: writing",
+        (false, Step::Reading) => "replay: reading",
+        (false, Step::Writing) => "replay: writing",
     };
     Failure { what, why }
 }
@@ -103,53 +96,30 @@ fn roomy<W: Write, E: Write>(
 
 // A line that does not fit is judged by its length alone, so its rest is not held.
 fn gather(line: &mut [u8], part: &[u8], place: Place) -> Place {
-    match codec::number::put_bytes(line, place.held, part) {
-        Put::Next(held) => Place {
-            number: place.number,
-            held,
-            long: place.long,
-            over: place.over,
-        },
-        Put::Nothing => Place {
-            number: place.number,
-            held: place.held,
-            long: true,
-            over: place.over,
-        },
-    }
+    let held = match place.held {
+        Some(held) => codec::number::put_bytes(line, held, part),
+        None => None,
+    };
+    Place { held, ..place }
 }
 
 fn next(place: Place) -> Place {
-    let number = place.number;
     Place {
-        number: if number < u64::MAX {
-            number + 1
-        } else {
-            number
-        },
-        held: 0,
-        long: false,
-        over: place.over,
+        number: place.number.saturating_add(1),
+        held: Some(0),
     }
 }
 
-// Where writing goes on.
-fn past(put: Put, at: usize) -> usize {
-    match put {
-        Put::Next(end) => end,
-        Put::Nothing => at,
-    }
-}
-
+// What is put ends where it began where there is no room for it.
 fn bad(out: &mut [u8], at: usize, number: u64) -> usize {
-    let end = past(script::answer::bad(out, at, number), at);
-    past(codec::number::put_bytes(out, end, b"\n"), end)
+    let end = script::answer::bad(out, at, number).unwrap_or(at);
+    codec::number::put_bytes(out, end, b"\n").unwrap_or(end)
 }
 
-fn end(out: &mut [u8], at: usize, put: Put, number: u64) -> usize {
+fn end(out: &mut [u8], at: usize, put: Option<usize>, number: u64) -> usize {
     match put {
-        Put::Next(end) => past(codec::number::put_bytes(out, end, b"\n"), end),
-        Put::Nothing => bad(out, at, number),
+        Some(end) => codec::number::put_bytes(out, end, b"\n").unwrap_or(end),
+        None => bad(out, at, number),
     }
 }
 
@@ -166,7 +136,7 @@ fn answered(taped: Taped, told: Told, out: &mut [u8], number: u64) -> Told {
 
 fn play(told: Told, line: &[u8], frame: &mut [u8], out: &mut [u8], number: u64) -> Told {
     let kept = text::line::kept(line);
-    if kept.len() == 0 {
+    if kept.is_empty() {
         return told;
     }
     let engine = told.engine;
@@ -192,7 +162,7 @@ fn record(
         return answered(taped, told, out, number);
     }
     let kept = text::line::kept(line);
-    if kept.len() == 0 {
+    if kept.is_empty() {
         return told;
     }
     let taped = crate::record::line(engine, kept, frame, tape, told.taped, out, told.at);
@@ -218,26 +188,14 @@ fn close<W: Write, E: Write>(
     place: Place,
 ) -> io::Result<Told> {
     let told = roomy(ends, before, out, tape)?;
-    if place.long {
+    let Some(held) = place.held else {
         return Ok(unread(told, out, place.number));
-    }
-    let whole = text::part::front(line, place.held);
+    };
+    let whole = text::part::front(line, held);
     if ends.recording {
         Ok(record(told, whole, frame, tape, out, place.number))
     } else {
         Ok(play(told, whole, frame, out, place.number))
-    }
-}
-
-fn ended(engine: Engine, place: Place) -> State {
-    State {
-        engine,
-        place: Place {
-            number: place.number,
-            held: 0,
-            long: false,
-            over: true,
-        },
     }
 }
 
@@ -266,16 +224,15 @@ fn take<W: Write, E: Write>(
 ) -> io::Result<State> {
     let mut place = start;
     let mut told = told_first(engine);
-    let mut rest = chunk;
-    while 0 < rest.len() {
-        let n = text::line::find(rest, b'\n');
-        place = gather(line, text::part::front(rest, n), place);
-        if rest.len() <= n {
-            return written(ends, told, out, tape, place);
+    for piece in chunk.split_inclusive(|b| *b == b'\n') {
+        match piece.strip_suffix(b"\n") {
+            Some(whole) => {
+                place = gather(line, whole, place);
+                told = close(ends, told, line, frame, tape, out, place)?;
+                place = next(place);
+            }
+            None => place = gather(line, piece, place),
         }
-        rest = &rest[n + 1..];
-        told = close(ends, told, line, frame, tape, out, place)?;
-        place = next(place);
     }
     written(ends, told, out, tape, place)
 }
@@ -287,18 +244,18 @@ fn last<W: Write, E: Write>(
     frame: &mut [u8],
     tape: &mut [u8],
     out: &mut [u8],
-    engine: Engine,
-    place: Place,
-) -> io::Result<State> {
-    if place.long | (0 < place.held) {
-        let told = close(ends, told_first(engine), line, frame, tape, out, place)?;
-        let state = written(ends, told, out, tape, place)?;
-        return Ok(ended(state.engine, place));
+    state: State,
+) -> io::Result<()> {
+    let State { engine, place } = state;
+    if let Some(0) = place.held {
+        return Ok(());
     }
-    Ok(ended(engine, place))
+    let told = close(ends, told_first(engine), line, frame, tape, out, place)?;
+    flush(ends, told, out, tape)?;
+    Ok(())
 }
 
-// Of an empty chunk there is no more to come.
+// Of an empty chunk there is no more to come, and nothing is kept.
 fn taken<W: Write, E: Write>(
     ends: &mut Ends<W, E>,
     chunk: &[u8],
@@ -307,13 +264,14 @@ fn taken<W: Write, E: Write>(
     tape: &mut [u8],
     out: &mut [u8],
     state: State,
-) -> io::Result<State> {
-    let engine = state.engine;
-    let place = state.place;
-    if chunk.len() == 0 {
-        return last(ends, line, frame, tape, out, engine, place);
+) -> io::Result<Option<State>> {
+    if chunk.is_empty() {
+        last(ends, line, frame, tape, out, state)?;
+        return Ok(None);
     }
-    take(ends, chunk, line, frame, tape, out, engine, place)
+    let State { engine, place } = state;
+    let next = take(ends, chunk, line, frame, tape, out, engine, place)?;
+    Ok(Some(next))
 }
 
 fn turn<R: Read, W: Write, E: Write>(
@@ -324,16 +282,17 @@ fn turn<R: Read, W: Write, E: Write>(
     tape: &mut [u8],
     out: &mut [u8],
     state: State,
-) -> Result<State, Failure> {
+) -> Result<Option<State>, Failure> {
     let mut chunk = [0u8; 65536];
-    let n = match input.read(&mut chunk) {
-        Ok(n) => n,
-        Err(why) => return Err(not_read(ends.recording, why)),
-    };
-    match taken(ends, &chunk[..n], line, frame, tape, out, state) {
-        Ok(next) => Ok(next),
-        Err(why) => Err(not_written(ends.recording, why)),
-    }
+    let recording = ends.recording;
+    let n = input
+        .read(&mut chunk)
+        .map_err(|why| failed(recording, Step::Reading, why))?;
+    taken(ends, &chunk[..n], line, frame, tape, out, state).map_err(|why| failed(
+        recording,
+        Step::Writing,
+        why,
+    ))
 }
 
 // A proved loop has to end, and nothing says that the input does. So it counts its turns, up to a number that no run
@@ -346,20 +305,17 @@ pub(crate) fn run<R: Read, W: Write, E: Write>(
     tape: &mut [u8],
     out: &mut [u8],
 ) -> Result<(), Failure> {
-    let place = Place {
-        number: 1,
-        held: 0,
-        long: false,
-        over: false,
-    };
     let mut state = State {
         engine: mirror::engine::fresh(),
-        place,
+        place: Place {
+            number: 1,
+            held: Some(0),
+        },
     };
     for _ in 0..u64::MAX {
-        state = turn(input, ends, line, frame, tape, out, state)?;
-        if state.place.over {
-            return Ok(());
+        match turn(input, ends, line, frame, tape, out, state)? {
+            Some(next) => state = next,
+            None => return Ok(()),
         }
     }
     Ok(())

@@ -17,7 +17,7 @@ use std::rt::Env;
 fn is_record(env: &impl Env) -> bool {
     let mut name = [0u8; 4096];
     match env.arg(1, &mut name) {
-        Ok(n) => text::line::same(&name[..n], b"record"),
+        Ok(n) => matches!(&name[..n], b"record"),
         Err(_) => false,
     }
 }

@@ -2,9 +2,8 @@
 // is played as a call, and the frame that an accepted take hands out becomes one.
 use crate::engine::Made;
 use mirror::engine::Engine;
-use recording::write::Written;
+use recording::error::RecordError;
 use script::tape::Tape;
-use text::bytes::Bytes;
 
 // How much of the recording is held and not yet written.
 #[derive(Drop)]
@@ -13,16 +12,20 @@ pub(crate) struct Taped {
     pub(crate) held: usize,
 }
 
-fn answered(engine: Engine, written: Written, held: usize, out: &mut [u8], at: usize) -> Taped {
-    match written {
-        Written::Next(end) => Taped {
-            made: crate::engine::answered(engine, script::answer::done(out, at, 0)),
-            held: end,
-        },
-        Written::Refused(answer) => Taped {
-            made: crate::engine::answered(engine, script::answer::done(out, at, answer)),
-            held,
-        },
+fn answered(
+    engine: Engine,
+    written: Result<usize, RecordError>,
+    held: usize,
+    out: &mut [u8],
+    at: usize,
+) -> Taped {
+    let answer = match written {
+        Ok(_) => 0,
+        Err(why) => u8::from(why),
+    };
+    Taped {
+        made: crate::engine::answered(engine, script::answer::done(out, at, answer)),
+        held: written.unwrap_or(held),
     }
 }
 
@@ -47,7 +50,7 @@ fn spelled(
     out: &mut [u8],
     at: usize,
 ) -> Taped {
-    let Bytes::Are(n) = text::bytes::read(text::line::word(line, 1), frame) else {
+    let Some(n) = text::bytes::read(text::line::word(line, 1), frame) else {
         return Taped {
             made: crate::engine::no_call(engine),
             held,
@@ -59,12 +62,13 @@ fn spelled(
 
 // A frame that the engine hands out is one that the reader accepts, so it is not refused here.
 fn played(made: Made, frame: &[u8], tape: &mut [u8], held: usize) -> Taped {
-    if made.taken == 0 {
+    let Some(taken) = made.taken else {
         return Taped { made, held };
-    }
-    match recording::write::frame(tape, held, text::part::front(frame, made.taken)) {
-        Written::Next(end) => Taped { made, held: end },
-        Written::Refused(_) => Taped { made, held },
+    };
+    let written = recording::write::frame(tape, held, text::part::front(frame, taken));
+    Taped {
+        made,
+        held: written.unwrap_or(held),
     }
 }
 
@@ -78,12 +82,12 @@ pub(crate) fn line(
     at: usize,
 ) -> Taped {
     match script::tape::parse(line) {
-        Tape::Start(time) => {
+        Some(Tape::Start(time)) => {
             let written = recording::write::start(tape, held, time);
             answered(engine, written, held, out, at)
         }
-        Tape::Frame => spelled(engine, line, frame, tape, held, out, at),
-        Tape::Call => {
+        Some(Tape::Frame) => spelled(engine, line, frame, tape, held, out, at),
+        None => {
             let made = crate::call::answer(engine, line, frame, out, at);
             played(made, frame, tape, held)
         }

@@ -1,6 +1,6 @@
 // Answers as text. Each short one is put together first, so that an output without room for the whole of it is left
 // as it was.
-ghost use Rattle.std.specs.Prelude.{◌≡◌, true, ◌∷◌, [], ◌++◌, length};
+ghost use Rattle.std.specs.Prelude.{◌≡◌, true, ◌+◌, ◌≤◌, ◌++◌, length};
 ghost use Rattle.codec.specs.Number.{Wrote};
 ghost use Rattle.text.specs.Put.{decimal_of, hex_of};
 ghost use Rattle.text.specs.Draft.{Adds};
@@ -15,53 +15,76 @@ use codec::time::{Nanos, Time};
 use reader::Stepped;
 use text::draft::Draft;
 
+// No short answer is longer.
+type Line = Draft<256>;
+
+fn lay(draft: &mut Line, s: &[u8])
+    requires { length draft.old + length s.now ≤ 256 }
+    ensures { Adds (length s.now) draft.old s.now draft.new }
+{
+    draft.push(s);
+}
+
+fn number(draft: &mut Line, v: u64)
+    requires { length draft.old + 20 ≤ 256 }
+    ensures { Adds 20 draft.old (decimal_of v) draft.new }
+{
+    draft.decimal(v);
+}
+
 // A space, and a number.
 #[tactic(auto, unfolding(crate::specs::Answer::field_text))]
-fn field(draft: &mut Draft, v: u64)
-    ensures { Adds draft.old (field_text v) draft.new }
+fn field(draft: &mut Line, v: u64)
+    requires { length draft.old + 21 ≤ 256 }
+    ensures { Adds 21 draft.old (field_text v) draft.new }
 {
-    draft.push(b" ");
-    draft.number(v)
+    lay(draft, b" ");
+    number(draft, v)
 }
 
 #[tactic(auto, unfolding(crate::specs::Answer::time_text))]
-fn time(draft: &mut Draft, t: Time)
-    ensures { Adds draft.old (time_text t) draft.new }
+fn time(draft: &mut Line, t: Time)
+    requires { length draft.old + 42 ≤ 256 }
+    ensures { Adds 42 draft.old (time_text t) draft.new }
 {
     field(draft, t.sec);
     field(draft, u64::from(t.nano))
 }
 
-fn state(draft: &mut Draft, shown: Option<u8>)
-    ensures { Adds draft.old (state_text shown) draft.new }
+fn state(draft: &mut Line, shown: Option<u8>)
+    requires { length draft.old + 21 ≤ 256 }
+    ensures { Adds 21 draft.old (state_text shown) draft.new }
 {
     match shown {
         Some(b) => field(draft, u64::from(b)),
-        None => draft.push(b" -"),
+        None => lay(draft, b" -"),
     }
 }
 
 #[tactic(auto, unfolding(crate::specs::Answer::flexray_text))]
-fn flexray(draft: &mut Draft, channels: u8, slot: u16, cycle: u8)
-    ensures { Adds draft.old (flexray_text channels slot cycle) draft.new }
+fn flexray(draft: &mut Line, channels: u8, slot: u16, cycle: u8)
+    requires { length draft.old + 63 ≤ 256 }
+    ensures { Adds 63 draft.old (flexray_text channels slot cycle) draft.new }
 {
     field(draft, u64::from(channels));
-    draft.push(b"/");
-    draft.number(u64::from(slot));
-    draft.push(b"/");
-    draft.number(u64::from(cycle))
+    lay(draft, b"/");
+    number(draft, u64::from(slot));
+    lay(draft, b"/");
+    number(draft, u64::from(cycle))
 }
 
 #[tactic(auto, unfolding(crate::specs::Answer::error_text))]
-fn error(draft: &mut Draft, channels: u8)
-    ensures { Adds draft.old (error_text channels) draft.new }
+fn error(draft: &mut Line, channels: u8)
+    requires { length draft.old + 25 ≤ 256 }
+    ensures { Adds 25 draft.old (error_text channels) draft.new }
 {
     field(draft, u64::from(channels));
-    draft.push(b"/-/-")
+    lay(draft, b"/-/-")
 }
 
-fn ident(draft: &mut Draft, id: Ident)
-    ensures { Adds draft.old (ident_text id) draft.new }
+fn ident(draft: &mut Line, id: Ident)
+    requires { length draft.old + 63 ≤ 256 }
+    ensures { Adds 63 draft.old (ident_text id) draft.new }
 {
     match id {
         Ident::Can(key) => field(draft, u64::from(key)),
@@ -72,32 +95,35 @@ fn ident(draft: &mut Draft, id: Ident)
             cycle,
         } => flexray(draft, channels, slot, cycle),
         Ident::FlexRayError(channels) => error(draft, channels),
-        Ident::Bare(_) => draft.push(b" -"),
+        Ident::Bare(_) => lay(draft, b" -"),
     }
 }
 
-fn load(draft: &mut Draft, carries: bool, n: usize)
-    ensures { Adds draft.old (load_text carries n) draft.new }
+fn load(draft: &mut Line, carries: bool, n: usize)
+    requires { length draft.old + 21 ≤ 256 }
+    ensures { Adds 21 draft.old (load_text carries n) draft.new }
 {
     if carries {
         field(draft, n as u64)
     } else {
-        draft.push(b" -")
+        lay(draft, b" -")
     }
 }
 
 #[tactic(auto, unfolding(crate::specs::Answer::placed_text))]
-fn placed(draft: &mut Draft, next: usize, t: Time)
-    ensures { Adds draft.old (placed_text next t) draft.new }
+fn placed(draft: &mut Line, next: usize, t: Time)
+    requires { length draft.old + 64 ≤ 256 }
+    ensures { Adds 64 draft.old (placed_text next t) draft.new }
 {
-    draft.push(b"0");
+    lay(draft, b"0");
     field(draft, next as u64);
     time(draft, t)
 }
 
 #[tactic(auto, unfolding(crate::specs::Answer::item_text))]
-fn item(draft: &mut Draft, it: Item, n: usize)
-    ensures { Adds draft.old (item_text it n) draft.new }
+fn item(draft: &mut Line, it: Item, n: usize)
+    requires { length draft.old + 147 ≤ 256 }
+    ensures { Adds 147 draft.old (item_text it n) draft.new }
 {
     let shown = it.state;
     let id = it.ident;
@@ -116,7 +142,7 @@ const NO_HEADER: Header = Header {
     length: 0,
 };
 
-fn number_of(judged: Result<Header, Refusal>) -> u8
+fn answer_of(judged: Result<Header, Refusal>) -> u8
     ensures { result ≡ judged_number judged }
 {
     match judged {
@@ -126,20 +152,22 @@ fn number_of(judged: Result<Header, Refusal>) -> u8
 }
 
 #[tactic(auto, unfolding(crate::specs::Answer::judged_text))]
-fn lay_judged(draft: &mut Draft, judged: Result<Header, Refusal>)
-    ensures { Adds draft.old (judged_text judged) draft.new }
+fn lay_judged(draft: &mut Line, judged: Result<Header, Refusal>)
+    requires { length draft.old + 104 ≤ 256 }
+    ensures { Adds 104 draft.old (judged_text judged) draft.new }
 {
-    let answer = number_of(judged);
+    let answer = answer_of(judged);
     let header = judged.unwrap_or(NO_HEADER);
     let t = header.time;
-    draft.number(u64::from(answer));
+    number(draft, u64::from(answer));
     field(draft, u64::from(header.sequence));
     time(draft, t);
     field(draft, u64::from(header.length))
 }
 
-fn lay_stepped(draft: &mut Draft, stepped: Result<Option<Stepped>, Refusal>)
-    ensures { Adds draft.old (stepped_text stepped) draft.new }
+fn lay_stepped(draft: &mut Line, stepped: Result<Option<Stepped>, Refusal>)
+    requires { length draft.old + 211 ≤ 256 }
+    ensures { Adds 211 draft.old (stepped_text stepped) draft.new }
 {
     match stepped {
         Ok(Some(step)) => {
@@ -148,10 +176,10 @@ fn lay_stepped(draft: &mut Draft, stepped: Result<Option<Stepped>, Refusal>)
             placed(draft, step.next, t);
             item(draft, it, step.length)
         }
-        Ok(None) => draft.push(b"0 end"),
+        Ok(None) => lay(draft, b"0 end"),
         Err(why) => {
-            draft.number(u64::from(u8::from(why)));
-            draft.push(b" - - - - - - - -")
+            number(draft, u64::from(u8::from(why)));
+            lay(draft, b" - - - - - - - -")
         }
     }
 }
@@ -159,9 +187,9 @@ fn lay_stepped(draft: &mut Draft, stepped: Result<Option<Stepped>, Refusal>)
 pub fn judged(out: &mut [u8], at: usize, judged: Result<Header, Refusal>) -> Option<usize>
     ensures { Wrote true out.old at (judged_text judged) out.new result }
 {
-    let mut draft = Draft::new();
+    let mut draft = Line::new();
     lay_judged(&mut draft, judged);
-    codec::number::put_bytes(out, at, draft.as_slice())
+    draft.put(out, at)
 }
 
 pub fn stepped(
@@ -171,19 +199,27 @@ pub fn stepped(
 ) -> Option<usize>
     ensures { Wrote true out.old at (stepped_text stepped) out.new result }
 {
-    let mut draft = Draft::new();
+    let mut draft = Line::new();
     lay_stepped(&mut draft, stepped);
-    codec::number::put_bytes(out, at, draft.as_slice())
+    draft.put(out, at)
+}
+
+#[tactic(auto, unfolding(crate::specs::Answer::bad_text))]
+fn lay_bad(draft: &mut Line, line: u64)
+    requires { length draft.old + 22 ≤ 256 }
+    ensures { Adds 22 draft.old (bad_text line) draft.new }
+{
+    lay(draft, b"?");
+    field(draft, line)
 }
 
 // A line that is no call, by its number from 1.
 pub fn bad(out: &mut [u8], at: usize, line: u64) -> Option<usize>
     ensures { Wrote true out.old at (bad_text line) out.new result }
 {
-    let mut draft = Draft::new();
-    draft.push(b"?");
-    field(&mut draft, line);
-    codec::number::put_bytes(out, at, draft.as_slice())
+    let mut draft = Line::new();
+    lay_bad(&mut draft, line);
+    draft.put(out, at)
 }
 
 // The answer of most calls.
@@ -194,27 +230,29 @@ pub fn done(out: &mut [u8], at: usize, answer: u8) -> Option<usize>
 }
 
 #[tactic(auto, unfolding(crate::specs::Answer::numbered_text))]
-fn lay_numbered(draft: &mut Draft, answer: u8, v: u64)
-    ensures { Adds draft.old (numbered_text answer v) draft.new }
+fn lay_numbered(draft: &mut Line, answer: u8, v: u64)
+    requires { length draft.old + 41 ≤ 256 }
+    ensures { Adds 41 draft.old (numbered_text answer v) draft.new }
 {
-    draft.number(u64::from(answer));
+    number(draft, u64::from(answer));
     field(draft, v)
 }
 
 pub fn numbered(out: &mut [u8], at: usize, answer: u8, v: u64) -> Option<usize>
     ensures { Wrote true out.old at (numbered_text answer v) out.new result }
 {
-    let mut draft = Draft::new();
+    let mut draft = Line::new();
     lay_numbered(&mut draft, answer, v);
-    codec::number::put_bytes(out, at, draft.as_slice())
+    draft.put(out, at)
 }
 
 #[tactic(auto, unfolding(crate::specs::Answer::back_text))]
-fn lay_back(draft: &mut Draft, answer: u8, back: u64)
-    ensures { Adds draft.old (back_text answer back) draft.new }
+fn lay_back(draft: &mut Line, answer: u8, back: u64)
+    requires { length draft.old + 46 ≤ 256 }
+    ensures { Adds 46 draft.old (back_text answer back) draft.new }
 {
-    draft.number(u64::from(answer));
-    draft.push(b" back");
+    number(draft, u64::from(answer));
+    lay(draft, b" back");
     field(draft, back)
 }
 
@@ -226,9 +264,9 @@ pub fn timed(out: &mut [u8], at: usize, answer: u8, back: Nanos) -> Option<usize
     if back.0 == 0 {
         return done(out, at, answer);
     }
-    let mut draft = Draft::new();
+    let mut draft = Line::new();
     lay_back(&mut draft, answer, back.0);
-    codec::number::put_bytes(out, at, draft.as_slice())
+    draft.put(out, at)
 }
 
 // How many characters bytes are.
@@ -253,9 +291,9 @@ fn before_bytes(out: &mut [u8], at: usize, front: &[u8], part: &[u8]) -> Option<
 pub fn with_bytes(out: &mut [u8], at: usize, answer: u8, part: &[u8]) -> Option<usize>
     ensures { Wrote true out.old at (bytes_text answer part.now) out.new result }
 {
-    let mut draft = Draft::new();
-    draft.number(u64::from(answer));
-    draft.push(b" ");
+    let mut draft = Line::new();
+    number(&mut draft, u64::from(answer));
+    lay(&mut draft, b" ");
     before_bytes(out, at, draft.as_slice(), part)
 }
 
@@ -263,8 +301,8 @@ pub fn with_bytes(out: &mut [u8], at: usize, answer: u8, part: &[u8]) -> Option<
 pub fn taken(out: &mut [u8], at: usize, answer: u8, size: u64, part: &[u8]) -> Option<usize>
     ensures { Wrote true out.old at (taken_text answer size part.now) out.new result }
 {
-    let mut draft = Draft::new();
+    let mut draft = Line::new();
     lay_numbered(&mut draft, answer, size);
-    draft.push(b" ");
+    lay(&mut draft, b" ");
     before_bytes(out, at, draft.as_slice(), part)
 }

@@ -42,8 +42,8 @@ words_unique κs a r r' x x' p q = p ∙ sym q
 pub word_unique : (κs : _) (a : _) (r r' : _) (x x' : _) → word.Post κs a r x → word.Post κs a r' x' → r.now ≡ r'.now
 word_unique κs a r r' x x' p q = p ∙ sym q
 
-pub front_unique : (κs : _) (a : _) (r r' : _) (x x' : _) → front.Post κs a r x → front.Post κs a r' x' → r.now ≡ r'.now
-front_unique κs a r r' x x' p q = p ∙ sym q
+pub front_unique : (t : _) (g : _) (κs : _) (a : _) (r r' : _) (x x' : _) → front.Post t g κs a r x → front.Post t g κs a r' x' → r.now ≡ r'.now
+front_unique t g κs a r r' x x' p q = p ∙ sym q
 
 pub hex_unique : (κs : _) (a : _) (r r' : _) (x x' : _) → hex.Post κs a r x → hex.Post κs a r' x' → (r ≡ r') × (x.0.now ≡ x'.0.now)
 hex_unique κs a r r' x x' p q = (p.answer ∙ sym q.answer, p.list ∙ sym q.list)

@@ -1,9 +1,0 @@
--- What is left of the chunk gets shorter.
-use Rattle.std.proofs.Common.{◌≤◌, length}
-use Rattle.replay.proofs.input.take.Given as goal
-
-abbrev pub invariant-loop-rest : goal.invariant-loop-rest
-invariant-loop-rest g l = length l.rest ≤ length l.chunk
-
-abbrev pub decreases-loop-rest : goal.decreases-loop-rest
-decreases-loop-rest g l = length l.rest

@@ -1,9 +1,0 @@
-use Rattle.std.proofs.Common.{ap}
-use Rattle.text.proofs.DraftLaws.{adds_then, adds_as}
-use Rattle.text.specs.Put.{decimal_of}
-use Rattle.script.specs.Answer.{field_text, flexray_text}
-use Rattle.script.proofs.answer.flexray.Goals as goal
-
-pub returns : goal.returns
-unfolding flexray_text
-returns c = adds_then (adds_then (adds_then (adds_then (adds_as c.field.ensures (ap field_text c.from.ensures)) c.push.ensures) (adds_as c.number.ensures (ap decimal_of c.from-2.ensures))) c.push-2.ensures) (adds_as c.number-2.ensures (ap decimal_of c.from-3.ensures))
