@@ -179,6 +179,10 @@ add-passed count s a e =
     let z10 = passed-guard (ltb (free_at s.places) 8) Cause.NoPlace _ tt z9.1 in
     record { source = ltb-true a.source count z2.0; kind = z4.0; good = z9.0; room = ltb-true (free_at s.places) 8 z10.0 }
 
+-- an accepted filter has one of eight places
+pub add-room : (count : ℕ) (s : Source) (a : Addition) → add_cause count s a ≡ Ok tt → length s.places ≡ 8 → free_at s.places < 8
+add-room count s a e h = (add-passed count s a e).room
+
 -- the lowest free place is within the list, or just past it
 pub free_most : (ps : List Filter) → free_at ps ≤ length ps
 free_most [] = omega arith

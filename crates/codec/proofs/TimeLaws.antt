@@ -6,6 +6,7 @@ use native.Mathlib.Omega.{arith}
 use lib.Dec.{ltb, leb}
 use Rattle.codec.proofs.Opened.{never}
 use borrow.Author.Tests.{lt-leb, ltb-true, ltb-false}
+use Rattle.codec.specs.Choice.{pick}
 use Rattle.codec.specs.declared.time.Time.{Time}
 use Rattle.codec.specs.declared.time.Ticks.{Ticks}
 use Rattle.codec.specs.declared.time.Nanos.{Nanos}
@@ -15,6 +16,32 @@ use Rattle.codec.specs.Time.{ns, ticks_of, behind_by, elapsed, recovered_of}
 pub too_far : (n : ℕ) → 18446744073709551615 < n → Elapsed.TooFar ≡ ticks_of n
 unfolding ticks_of
 too_far n h = simp (lt-leb (n / 10000) 65535 (omega arith))
+
+-- the nanoseconds from one reading to another; from a hundred seconds on they are only far, and no rule asks how far
+pub data Span : Type 0 where
+  nanos : ℕ → Span
+  far : Span
+  backwards : ℕ → Span
+
+unfoldable pub span_of : ℕ → ℕ → Span
+span_of f t = pick (ltb t f) (backwards (behind_by f t)) (pick (ltb (t - f) 100000000000) (nanos (t - f)) far)
+
+-- what a span says of the measure
+abbrev pub measured : Span → Elapsed
+measured (nanos n) = ticks_of n
+measured far = Elapsed.TooFar
+measured (backwards n) = Elapsed.Backwards (record { 0 = n })
+
+pub by_span : (f t : ℕ) (p : Span) → span_of f t ≡ p → measured p ≡ elapsed f t
+unfolding span_of elapsed ticks_of
+by_span f t p q = go (ltb t f) refl (ltb (t - f) 100000000000) refl
+  where
+    go : (b : Bool) → ltb t f ≡ b → (d : Bool) → ltb (t - f) 100000000000 ≡ d → measured p ≡ elapsed f t
+    go true e d g = rw (← q) (simp e)
+    go false e true g = rw (← q) (simp (e, g))
+    go false e false g =
+        let k : 100000000000 ≤ t - f = ltb-false (t - f) 100000000000 g in
+        rw (← q) (simp (e, g, lt-leb ((t - f) / 10000) 65535 (omega arith)))
 
 -- ticks say where the later time lies
 pub within : (f t k : ℕ) → elapsed f t ≡ Elapsed.Ticks (record { 0 = k }) → (f + k * 10000 ≤ t) × (t < f + k * 10000 + 10000)
