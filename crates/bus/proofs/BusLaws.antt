@@ -6,7 +6,7 @@ use mathlib.Core.List.{List, [], ◌∷◌, map}
 use native.Mathlib.Omega.{arith}
 use lib.ListN.{length, length-map}
 use lib.Dec.{leb, ltb}
-use lib.Bits.{bit_and, bit_or, or_shifted, and_mask}
+use lib.Bits.{bit_or, or_shifted}
 use mir.Val.{bool_byte}
 use borrow.Author.Tests.{le-ltb, ltb-true, ltb-false, leb-true, not-true}
 use Rattle.codec.specs.Choice.{pick, bit}
@@ -89,18 +89,6 @@ can_sum p o n hp ho hn =
 pub can_made : {x n : ℕ} (p o : Bool) → Below x 16 n
     → bit_or (bit_or (bit_or 64 (bool_byte p * 2 ^ 5 % 2 ^ 8)) (bool_byte o * 2 ^ 4 % 2 ^ 8)) n ≡ 64 + bit p * 32 + bit o * 16 + x
 can_made {x} {n} p o k = can_sum (bool_byte p) (bool_byte o) n (bit_small p) (bit_small o) k.below ∙ rw (byte_bit p, byte_bit o, k.is)
-
-pub lin_made : (b : Bool) → bool_byte b * 2 ^ 6 % 2 ^ 8 ≡ bit b * 64
-lin_made true = omega arith
-lin_made false = omega arith
-
-flexray_sum : (p n : ℕ) → p < 2 → bit_or (p * 2 ^ 6 % 2 ^ 8) (bit_and n 63) ≡ p * 64 + n % 64
-flexray_sum p n hp =
-    let a : p * 2 ^ 6 % 2 ^ 8 ≡ p * 2 ^ 6 = omega arith in
-    rw (and_mask n 6, a) (or_shifted p 6 (n % 64) (omega arith))
-
-pub flexray_made : (b : Bool) (n : ℕ) → bit_or (bool_byte b * 2 ^ 6 % 2 ^ 8) (bit_and n 63) ≡ bit b * 64 + n % 64
-flexray_made b n = flexray_sum (bool_byte b) n (bit_small b) ∙ rw (byte_bit b)
 
 -- what an accepted report passed
 pub record Passed (count f : ℕ) (s : Source) (r : Report) (n : ℕ) : Type 0 where

@@ -1,5 +1,5 @@
 -- Laws of the framer's definitions.
-use Rattle.std.proofs.Common.{◌≡◌, ℕ, ◌+◌, ◌-◌, ◌/◌, ◌%◌, ◌<◌, ◌≤◌, Bool, true, false, ◌||◌, eqb, ltb, leb, List, length, take, drop, replicate, sym, refl, ◌∙◌, true≢false, arith, length-take, ltb-false, ltb-true, le-ltb, lt-ltb, eq-eqb, rules, not, ne_eqb, le-leb, leb-true}
+use Rattle.std.proofs.Common.{◌≡◌, ℕ, ◌+◌, ◌-◌, ◌/◌, ◌<◌, ◌≤◌, Bool, true, false, ◌||◌, eqb, ltb, leb, List, length, take, drop, replicate, sym, refl, ◌∙◌, true≢false, arith, length-take, ltb-false, ltb-true, le-ltb, lt-ltb, eq-eqb, rules, not, ne_eqb, le-leb, leb-true}
 use mathlib.Core.Bool.{false≢true}
 use Rattle.codec.specs.Choice.{pick}
 use Rattle.codec.proofs.BoolLaws.{and_l, and_r}
@@ -57,10 +57,6 @@ back_by f t = go (ltb t f) refl (leb ((t - f) / 10000) 65535) refl
     go true e d g = rw e
     go false e true g = let h : f ≤ t = ltb-false t f e in rw (e, g) (omega arith)
     go false e false g = let h : f ≤ t = ltb-false t f e in rw (e, g) (omega arith)
-
--- the ring of eight slots
-pub next_slot : (n : ℕ) → (n % 8 + 1) % 8 ≡ (n + 1) % 8
-next_slot n = omega arith
 
 -- what a sound meter is
 pub sounds : (m : Meter) → sound_meter m ≡ true → Sound m

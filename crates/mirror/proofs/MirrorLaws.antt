@@ -86,12 +86,6 @@ states_step n k e x t h ex =
     let m : n - k ≡ suc (n - (k + 1)) = omega arith in
     rw (m, ex, add-one k)
 
-pub states_start : (n : ℕ) (e : Engine) (t : Time) → states_of n 0 e t ≡ states_of (n - 0) 0 e t
-states_start n e t = let m : n - 0 ≡ n = omega arith in rw m
-
-pub states_end : (n k : ℕ) (e : Engine) (t : Time) → n ≤ k → states_of (n - k) k e t ≡ e
-states_end n k e t h = let m : n - k ≡ 0 = omega arith in rw m
-
 pub tick_quiet : (e : Engine) (k : ℕ) (t : Time) (s x : Source) → s ≡ get_or e.sources k no_source → x ≡ calmed s → tick_due s ≡ false
     → record { count = e.count; sources = set e.sources k x; framer = e.framer } ≡ tick_source e k t
 unfolding tick_source

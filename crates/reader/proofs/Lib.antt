@@ -1,5 +1,4 @@
 pub mod ItemsLaws
-pub mod AnswerLaws
 pub mod AlongLaws
 pub mod FrameLaws
 pub mod Theorems

@@ -4,7 +4,7 @@ use mathlib.Core.Path.{◌≡◌, refl, sym, ◌∙◌}
 use mathlib.Core.Bool.{Bool, true, false}
 use mathlib.Core.List.{List}
 use native.Mathlib.Omega.{arith}
-use lib.ListN.{length, take, drop, get_or, get_or-eq_default}
+use lib.ListN.{length, take, drop, get_or}
 use lib.Dec.{ltb, leb}
 use borrow.Author.Tests.{lt-ltb, le-ltb, eq-eqb, ne_eqb, ltb-true, leb-true, leb-false}
 use Rattle.std.specs.Prelude.{Option, Ok, Err}
@@ -35,18 +35,11 @@ head_new k past old piece h = simp (le-ltb k past h)
 
 -- the byte at k, as the code finds it
 module _ (k past old : ℕ) (piece : List ℕ) (h : past ≤ k) where
-  pub head_none : length piece ≤ k - past → old ≡ head_byte k past old piece
-  head_none g = sym (head_new k past old piece h ∙ get_or-eq_default piece old g)
-
   pub head_got : k - past < length piece → get_or piece (k - past) 0 ≡ head_byte k past old piece
   head_got g = get_or_default piece (k - past) 0 old g ∙ sym (head_new k past old piece h)
 
 -- how many bytes are used: none of a field that is over, all that there are, or the rest of the field
 module _ (p : Place) (n : ℕ) where
-  pub used_none : size_of p ≤ p.past → 0 ≡ used_of p n
-  unfolding used_of
-  used_none h = omega arith
-
   pub used_all : n ≤ size_of p - p.past → n ≡ used_of p n
   unfolding used_of
   used_all h = omega arith
