@@ -20,7 +20,8 @@ struct Place {
     held: Option<usize>,
 }
 
-// What is kept from turn to turn; the engine starts before setup.
+// What is kept from turn to turn; the engine starts before setup. The four buffers that main lends go side by side: no
+// proof is made of one field of a struct lent as `&` while another is written.
 #[derive(Drop)]
 struct State {
     engine: Engine,
@@ -94,13 +95,10 @@ fn roomy<W: Write, E: Write>(
     flush(ends, told, out, tape)
 }
 
-// A line that does not fit is judged by its length alone, so its rest is not held.
-fn gather(line: &mut [u8], part: &[u8], place: Place) -> Place {
-    let held = match place.held {
-        Some(held) => codec::number::put_bytes(line, held, part),
-        None => None,
-    };
-    Place { held, ..place }
+// How much of the line is held with one more part of it. A line that does not fit is judged by its length alone, so
+// its rest is not held.
+fn gather(line: &mut [u8], part: &[u8], held: Option<usize>) -> Option<usize> {
+    codec::number::put_bytes(line, held?, part)
 }
 
 fn next(place: Place) -> Place {
@@ -227,11 +225,11 @@ fn take<W: Write, E: Write>(
     for piece in chunk.split_inclusive(|b| *b == b'\n') {
         match piece.strip_suffix(b"\n") {
             Some(whole) => {
-                place = gather(line, whole, place);
+                place.held = gather(line, whole, place.held);
                 told = close(ends, told, line, frame, tape, out, place)?;
                 place = next(place);
             }
-            None => place = gather(line, piece, place),
+            None => place.held = gather(line, piece, place.held),
         }
     }
     written(ends, told, out, tape, place)

@@ -18,6 +18,7 @@ use text::draft::Draft;
 // No short answer is longer.
 type Line = Draft<256>;
 
+// This and `number` stand in each crate that lays words: they ask for room, and a public function asks for nothing.
 fn lay(draft: &mut Line, s: &[u8])
     requires { length draft.old + length s.now ≤ 256 }
     ensures { Adds (length s.now) draft.old s.now draft.new }
@@ -222,7 +223,7 @@ pub fn bad(out: &mut [u8], at: usize, line: u64) -> Option<usize>
     draft.put(out, at)
 }
 
-// The answer of most calls.
+// The answer of most calls, by its number, since that is what is printed.
 pub fn done(out: &mut [u8], at: usize, answer: u8) -> Option<usize>
     ensures { Wrote true out.old at (decimal_of answer) out.new result }
 {

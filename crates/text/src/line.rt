@@ -2,7 +2,7 @@
 ghost use Rattle.std.specs.Prelude.{◌≡◌};
 ghost use Rattle.text.specs.Line.{Found, trimmed, kept_of, words_of, word_of};
 
-// Where b first stands, or the length.
+// Where b first stands, or the length: each caller cuts there.
 pub fn find(s: &[u8], b: u8) -> usize
     ensures { Found s.now b result }
 {

@@ -44,6 +44,7 @@ fn spell(text: &mut [u8], v: u64) -> usize
     0
 }
 
+// By hand, since the library's `write!` says nothing of what stands in the output after an `Err`.
 pub fn decimal(out: &mut [u8], at: usize, v: u64) -> Option<usize>
     ensures { Wrote true out.old at (decimal_of v) out.new result }
 {
