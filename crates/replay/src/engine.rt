@@ -29,18 +29,10 @@ fn fresh(out: &mut [u8], at: usize) -> Made {
     answered(mirror::engine::fresh(), script::answer::done(out, at, 0))
 }
 
-// Its number, 0 for done.
-fn number<T: Drop>(answer: Result<T, Cause>) -> u8 {
-    match answer {
-        Ok(_) => 0,
-        Err(cause) => u8::from(cause),
-    }
-}
-
 pub(crate) fn done(outcome: Outcome<()>, out: &mut [u8], at: usize) -> Made {
     answered(
         outcome.engine,
-        script::answer::done(out, at, number(outcome.answer)),
+        script::answer::done(out, at, reader::number(outcome.answer)),
     )
 }
 
@@ -49,7 +41,7 @@ pub(crate) fn timed(outcome: Outcome<Nanos>, out: &mut [u8], at: usize) -> Made 
     let back = outcome.answer.unwrap_or(Nanos(0));
     answered(
         outcome.engine,
-        script::answer::timed(out, at, number(outcome.answer), back),
+        script::answer::timed(out, at, reader::number(outcome.answer), back),
     )
 }
 
@@ -62,7 +54,7 @@ pub(crate) fn numbered(
 ) -> Made {
     answered(
         engine,
-        script::answer::numbered(out, at, number(answer), answer.unwrap_or(0)),
+        script::answer::numbered(out, at, reader::number(answer), answer.unwrap_or(0)),
     )
 }
 
@@ -72,7 +64,7 @@ fn take_in(engine: Engine, room: &mut [u8], frame: &mut [u8], out: &mut [u8], at
     codec::number::put_bytes(frame, 0, text::part::front(room, length));
     Made {
         engine: outcome.engine,
-        put: script::answer::taken(out, at, number(outcome.answer), length as u64, room),
+        put: script::answer::taken(out, at, reader::number(outcome.answer), length as u64, room),
         taken: outcome.answer.ok(),
     }
 }
