@@ -150,7 +150,7 @@ bytes_most : (bs : List ℕ) → length (bytes_text bs) ≤ 1 + 2 * length bs
 bytes_most [] = omega arith
 bytes_most (b ∷ bs) = let a = pairs-length (b ∷ bs) in omega arith
 
-front_most : (m : Option Time) (t : Time) (it : Item) (n : ℕ) → length (front_text m t it n) ≤ 156
+pub front_most : (m : Option Time) (t : Time) (it : Item) (n : ℕ) → length (front_text m t it n) ≤ 156
 unfolding front_text place_text shown_text
 front_most m t it n =
     let a = time_most t in
@@ -201,7 +201,7 @@ module _ (m : Option Time) (t : Time) (s : List ℕ) (b : Bytes s) where
       go false e ih = items_step n at (leb-false (length s) at e) ih (read_item s at) refl
 
 -- a field's lines together
-frame_most : (h : Header) → length (frame_line h) ≤ 79
+pub frame_most : (h : Header) → length (frame_line h) ≤ 79
 unfolding frame_line
 frame_most h =
     let a = field_most h.sequence in
@@ -209,7 +209,7 @@ frame_most h =
     let d = field_most h.length in
     simp length-append (omega arith)
 
-start_most : (t : Time) → length (start_line t) ≤ 37
+pub start_most : (t : Time) → length (start_line t) ≤ 37
 unfolding start_line
 start_most t = let a = time_most t in simp length-append (omega arith)
 

@@ -15,25 +15,28 @@ use codec::time::{Nanos, Time};
 use reader::Stepped;
 use text::draft::Draft;
 
+// Room for any answer but its bytes, which are written straight to the output.
+type Answer = Draft<256>;
+
 // A space, and a number.
 #[tactic(auto, unfolding(crate::specs::Answer::field_text))]
-fn field(draft: &mut Draft, v: u64)
-    ensures { Adds draft.old (field_text v) draft.new }
+fn field(draft: &mut Answer, v: u64)
+    ensures { Adds 256 draft.old (field_text v) draft.new }
 {
     draft.push(b" ");
-    draft.number(v)
+    draft.decimal(v)
 }
 
 #[tactic(auto, unfolding(crate::specs::Answer::time_text))]
-fn time(draft: &mut Draft, t: Time)
-    ensures { Adds draft.old (time_text t) draft.new }
+fn time(draft: &mut Answer, t: Time)
+    ensures { Adds 256 draft.old (time_text t) draft.new }
 {
     field(draft, t.sec);
     field(draft, u64::from(t.nano))
 }
 
-fn state(draft: &mut Draft, shown: Option<u8>)
-    ensures { Adds draft.old (state_text shown) draft.new }
+fn state(draft: &mut Answer, shown: Option<u8>)
+    ensures { Adds 256 draft.old (state_text shown) draft.new }
 {
     match shown {
         Some(b) => field(draft, u64::from(b)),
@@ -42,26 +45,26 @@ fn state(draft: &mut Draft, shown: Option<u8>)
 }
 
 #[tactic(auto, unfolding(crate::specs::Answer::flexray_text))]
-fn flexray(draft: &mut Draft, channels: u8, slot: u16, cycle: u8)
-    ensures { Adds draft.old (flexray_text channels slot cycle) draft.new }
+fn flexray(draft: &mut Answer, channels: u8, slot: u16, cycle: u8)
+    ensures { Adds 256 draft.old (flexray_text channels slot cycle) draft.new }
 {
     field(draft, u64::from(channels));
     draft.push(b"/");
-    draft.number(u64::from(slot));
+    draft.decimal(u64::from(slot));
     draft.push(b"/");
-    draft.number(u64::from(cycle))
+    draft.decimal(u64::from(cycle))
 }
 
 #[tactic(auto, unfolding(crate::specs::Answer::error_text))]
-fn error(draft: &mut Draft, channels: u8)
-    ensures { Adds draft.old (error_text channels) draft.new }
+fn error(draft: &mut Answer, channels: u8)
+    ensures { Adds 256 draft.old (error_text channels) draft.new }
 {
     field(draft, u64::from(channels));
     draft.push(b"/-/-")
 }
 
-fn ident(draft: &mut Draft, id: Ident)
-    ensures { Adds draft.old (ident_text id) draft.new }
+fn ident(draft: &mut Answer, id: Ident)
+    ensures { Adds 256 draft.old (ident_text id) draft.new }
 {
     match id {
         Ident::Can(key) => field(draft, u64::from(key)),
@@ -76,8 +79,8 @@ fn ident(draft: &mut Draft, id: Ident)
     }
 }
 
-fn load(draft: &mut Draft, carries: bool, n: usize)
-    ensures { Adds draft.old (load_text carries n) draft.new }
+fn load(draft: &mut Answer, carries: bool, n: usize)
+    ensures { Adds 256 draft.old (load_text carries n) draft.new }
 {
     if carries {
         field(draft, n as u64)
@@ -87,8 +90,8 @@ fn load(draft: &mut Draft, carries: bool, n: usize)
 }
 
 #[tactic(auto, unfolding(crate::specs::Answer::placed_text))]
-fn placed(draft: &mut Draft, next: usize, t: Time)
-    ensures { Adds draft.old (placed_text next t) draft.new }
+fn placed(draft: &mut Answer, next: usize, t: Time)
+    ensures { Adds 256 draft.old (placed_text next t) draft.new }
 {
     draft.push(b"0");
     field(draft, next as u64);
@@ -96,8 +99,8 @@ fn placed(draft: &mut Draft, next: usize, t: Time)
 }
 
 #[tactic(auto, unfolding(crate::specs::Answer::item_text))]
-fn item(draft: &mut Draft, it: Item, n: usize)
-    ensures { Adds draft.old (item_text it n) draft.new }
+fn item(draft: &mut Answer, it: Item, n: usize)
+    ensures { Adds 256 draft.old (item_text it n) draft.new }
 {
     let shown = it.state;
     let id = it.ident;
@@ -126,20 +129,20 @@ fn number_of(judged: Result<Header, Refusal>) -> u8
 }
 
 #[tactic(auto, unfolding(crate::specs::Answer::judged_text))]
-fn lay_judged(draft: &mut Draft, judged: Result<Header, Refusal>)
-    ensures { Adds draft.old (judged_text judged) draft.new }
+fn lay_judged(draft: &mut Answer, judged: Result<Header, Refusal>)
+    ensures { Adds 256 draft.old (judged_text judged) draft.new }
 {
     let answer = number_of(judged);
     let header = judged.unwrap_or(NO_HEADER);
     let t = header.time;
-    draft.number(u64::from(answer));
+    draft.decimal(u64::from(answer));
     field(draft, u64::from(header.sequence));
     time(draft, t);
     field(draft, u64::from(header.length))
 }
 
-fn lay_stepped(draft: &mut Draft, stepped: Result<Option<Stepped>, Refusal>)
-    ensures { Adds draft.old (stepped_text stepped) draft.new }
+fn lay_stepped(draft: &mut Answer, stepped: Result<Option<Stepped>, Refusal>)
+    ensures { Adds 256 draft.old (stepped_text stepped) draft.new }
 {
     match stepped {
         Ok(Some(step)) => {
@@ -150,7 +153,7 @@ fn lay_stepped(draft: &mut Draft, stepped: Result<Option<Stepped>, Refusal>)
         }
         Ok(None) => draft.push(b"0 end"),
         Err(why) => {
-            draft.number(u64::from(u8::from(why)));
+            draft.decimal(u64::from(u8::from(why)));
             draft.push(b" - - - - - - - -")
         }
     }
@@ -159,9 +162,9 @@ fn lay_stepped(draft: &mut Draft, stepped: Result<Option<Stepped>, Refusal>)
 pub fn judged(out: &mut [u8], at: usize, judged: Result<Header, Refusal>) -> Option<usize>
     ensures { Wrote true out.old at (judged_text judged) out.new result }
 {
-    let mut draft = Draft::new();
+    let mut draft = Answer::new();
     lay_judged(&mut draft, judged);
-    codec::number::put_bytes(out, at, draft.as_slice())
+    draft.put(out, at)
 }
 
 pub fn stepped(
@@ -171,19 +174,19 @@ pub fn stepped(
 ) -> Option<usize>
     ensures { Wrote true out.old at (stepped_text stepped) out.new result }
 {
-    let mut draft = Draft::new();
+    let mut draft = Answer::new();
     lay_stepped(&mut draft, stepped);
-    codec::number::put_bytes(out, at, draft.as_slice())
+    draft.put(out, at)
 }
 
 // A line that is no call, by its number from 1.
 pub fn bad(out: &mut [u8], at: usize, line: u64) -> Option<usize>
     ensures { Wrote true out.old at (bad_text line) out.new result }
 {
-    let mut draft = Draft::new();
+    let mut draft = Answer::new();
     draft.push(b"?");
     field(&mut draft, line);
-    codec::number::put_bytes(out, at, draft.as_slice())
+    draft.put(out, at)
 }
 
 // The answer of most calls.
@@ -194,26 +197,26 @@ pub fn done(out: &mut [u8], at: usize, answer: u8) -> Option<usize>
 }
 
 #[tactic(auto, unfolding(crate::specs::Answer::numbered_text))]
-fn lay_numbered(draft: &mut Draft, answer: u8, v: u64)
-    ensures { Adds draft.old (numbered_text answer v) draft.new }
+fn lay_numbered(draft: &mut Answer, answer: u8, v: u64)
+    ensures { Adds 256 draft.old (numbered_text answer v) draft.new }
 {
-    draft.number(u64::from(answer));
+    draft.decimal(u64::from(answer));
     field(draft, v)
 }
 
 pub fn numbered(out: &mut [u8], at: usize, answer: u8, v: u64) -> Option<usize>
     ensures { Wrote true out.old at (numbered_text answer v) out.new result }
 {
-    let mut draft = Draft::new();
+    let mut draft = Answer::new();
     lay_numbered(&mut draft, answer, v);
-    codec::number::put_bytes(out, at, draft.as_slice())
+    draft.put(out, at)
 }
 
 #[tactic(auto, unfolding(crate::specs::Answer::back_text))]
-fn lay_back(draft: &mut Draft, answer: u8, back: u64)
-    ensures { Adds draft.old (back_text answer back) draft.new }
+fn lay_back(draft: &mut Answer, answer: u8, back: u64)
+    ensures { Adds 256 draft.old (back_text answer back) draft.new }
 {
-    draft.number(u64::from(answer));
+    draft.decimal(u64::from(answer));
     draft.push(b" back");
     field(draft, back)
 }
@@ -226,9 +229,9 @@ pub fn timed(out: &mut [u8], at: usize, answer: u8, back: Nanos) -> Option<usize
     if back.0 == 0 {
         return done(out, at, answer);
     }
-    let mut draft = Draft::new();
+    let mut draft = Answer::new();
     lay_back(&mut draft, answer, back.0);
-    codec::number::put_bytes(out, at, draft.as_slice())
+    draft.put(out, at)
 }
 
 // How many characters bytes are.
@@ -253,8 +256,8 @@ fn before_bytes(out: &mut [u8], at: usize, front: &[u8], part: &[u8]) -> Option<
 pub fn with_bytes(out: &mut [u8], at: usize, answer: u8, part: &[u8]) -> Option<usize>
     ensures { Wrote true out.old at (bytes_text answer part.now) out.new result }
 {
-    let mut draft = Draft::new();
-    draft.number(u64::from(answer));
+    let mut draft = Answer::new();
+    draft.decimal(u64::from(answer));
     draft.push(b" ");
     before_bytes(out, at, draft.as_slice(), part)
 }
@@ -263,7 +266,7 @@ pub fn with_bytes(out: &mut [u8], at: usize, answer: u8, part: &[u8]) -> Option<
 pub fn taken(out: &mut [u8], at: usize, answer: u8, size: u64, part: &[u8]) -> Option<usize>
     ensures { Wrote true out.old at (taken_text answer size part.now) out.new result }
 {
-    let mut draft = Draft::new();
+    let mut draft = Answer::new();
     lay_numbered(&mut draft, answer, size);
     draft.push(b" ");
     before_bytes(out, at, draft.as_slice(), part)

@@ -6,4 +6,4 @@ use Rattle.script.proofs.answer.bad.Goals as goal
 
 pub returns : goal.returns
 unfolding bad_text
-returns c = draft_wrote c.new-draft.ensures (adds_as (adds_then c.push.ensures c.field.ensures) refl) (bad_length c.args.line) c.as_slice.ensures c.put_bytes.ensures
+returns c = draft_wrote c.new-draft.ensures (adds_as (adds_then c.push.ensures c.field.ensures) refl) (bad_length c.args.line) c.put.ensures

@@ -4,4 +4,4 @@ use Rattle.script.proofs.answer.field.Goals as goal
 
 pub returns : goal.returns
 unfolding field_text
-returns c = adds_then c.push.ensures c.number.ensures
+returns c = adds_then c.push.ensures c.decimal.ensures

@@ -3,4 +3,4 @@ use Rattle.script.proofs.AnswerLaws.{judged_length}
 use Rattle.script.proofs.answer.judged.Goals as goal
 
 pub returns : goal.returns
-returns c = draft_wrote c.new-draft.ensures c.lay_judged.ensures (judged_length _) c.as_slice.ensures c.put_bytes.ensures
+returns c = draft_wrote c.new-draft.ensures c.lay_judged.ensures (judged_length _) c.put.ensures

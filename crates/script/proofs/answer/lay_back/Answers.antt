@@ -6,4 +6,4 @@ use Rattle.script.proofs.answer.lay_back.Goals as goal
 
 pub returns : goal.returns
 unfolding back_text
-returns c = adds_then (adds_then (adds_as c.number.ensures (ap decimal_of c.from.ensures)) c.push.ensures) c.field.ensures
+returns c = adds_then (adds_then (adds_as c.decimal.ensures (ap decimal_of c.from.ensures)) c.push.ensures) c.field.ensures

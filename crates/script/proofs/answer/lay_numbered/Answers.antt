@@ -6,4 +6,4 @@ use Rattle.script.proofs.answer.lay_numbered.Goals as goal
 
 pub returns : goal.returns
 unfolding numbered_text
-returns c = adds_then (adds_as c.number.ensures (ap decimal_of c.from.ensures)) c.field.ensures
+returns c = adds_then (adds_as c.decimal.ensures (ap decimal_of c.from.ensures)) c.field.ensures

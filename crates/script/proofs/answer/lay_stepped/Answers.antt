@@ -6,4 +6,4 @@ pub returns-in-Ok-Some : goal.returns-in-Ok-Some
 returns-in-Ok-Some c = adds_as (adds_then c.placed.ensures c.item.ensures) (rw c.in-Ok-Some.is (search rules))
 
 pub returns-in-Err : goal.returns-in-Err
-returns-in-Err c = adds_as (adds_then c.number.ensures c.push-in-Err.ensures) (rw (c.from-in-Err.ensures, c.from.ensures, c.in-Err.is))
+returns-in-Err c = adds_as (adds_then c.decimal.ensures c.push-in-Err.ensures) (rw (c.from-in-Err.ensures, c.from.ensures, c.in-Err.is))

@@ -7,4 +7,4 @@ use Rattle.script.proofs.answer.timed.Goals as goal
 pub returns : goal.returns
 unfolding timed_text
 returns c =
-    rw (ne_eqb c.args.back.0 0 c.if-back-eq0.false) (draft_wrote c.new-draft.ensures c.lay_back.ensures (back_length _ _) c.as_slice.ensures c.put_bytes.ensures)
+    rw (ne_eqb c.args.back.0 0 c.if-back-eq0.false) (draft_wrote c.new-draft.ensures c.lay_back.ensures (back_length _ _) c.put.ensures)
