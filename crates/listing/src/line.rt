@@ -17,9 +17,9 @@ pub fn frame(out: &mut [u8], at: usize, h: Header) -> Option<usize>
 {
     let mut line = Line::new();
     line.push(b"frame");
-    word::field(&mut line, h.sequence as u64);
+    line.field(h.sequence as u64);
     word::time(&mut line, h.time);
-    word::field(&mut line, h.length as u64);
+    line.field(h.length as u64);
     line.push(b"\n");
     line.put(out, at)
 }
@@ -61,7 +61,7 @@ fn place(line: &mut Line, start: Option<Time>, t: Time, it: Item)
     word::time(line, t);
     word::position(line, start, t);
     word::bus(line, it.ident);
-    word::field(line, it.network as u64);
+    line.field(it.network as u64);
 }
 
 #[tactic(auto, unfolding(crate::specs::Line::shown_text))]

@@ -2,7 +2,7 @@
 ghost use Rattle.std.specs.Prelude.{◌≡◌, [], ◌%◌, ◌^◌, ◌≤◌};
 ghost use Rattle.codec.specs.Choice.{pick};
 ghost use Rattle.text.specs.Draft.{Adds};
-ghost use Rattle.listing.specs.Line.{dash, field_text, hex_text, time_text, sign_text, signed_text, placed_text, position_text, kind_text, is_fd, bus_text, can_text, channels_text, flexray_text, error_text, ident_text, state_text, load_text};
+ghost use Rattle.listing.specs.Line.{dash, hex_text, time_text, sign_text, signed_text, placed_text, position_text, kind_text, is_fd, bus_text, can_text, channels_text, flexray_text, error_text, ident_text, state_text, load_text};
 
 use codec::ident::{Ident, Kind};
 use codec::time::Time;
@@ -19,14 +19,6 @@ fn dash(line: &mut Line)
     line.push(b" -");
 }
 
-#[tactic(auto, unfolding(crate::specs::Line::field_text))]
-pub(crate) fn field(line: &mut Line, v: u64)
-    ensures { Adds 256 line.old (field_text v) line.new }
-{
-    line.push(b" ");
-    line.decimal(v);
-}
-
 #[tactic(auto, unfolding(crate::specs::Line::hex_text))]
 fn hex<const WIDTH: usize>(line: &mut Line, v: u64)
     requires { WIDTH ≤ 8 }
@@ -40,7 +32,7 @@ fn hex<const WIDTH: usize>(line: &mut Line, v: u64)
 pub(crate) fn time(line: &mut Line, t: Time)
     ensures { Adds 256 line.old (time_text t) line.new }
 {
-    field(line, t.sec);
+    line.field(t.sec);
     line.push(b".");
     line.push(&crate::digit::fixed::<10, 9>(t.nano as u64));
 }
@@ -193,7 +185,7 @@ pub(crate) fn load(line: &mut Line, carries: bool, n: usize)
     ensures { Adds 256 line.old (load_text carries n) line.new }
 {
     if carries {
-        field(line, n as u64);
+        line.field(n as u64);
     } else {
         dash(line);
     }

@@ -17,15 +17,12 @@ use Rattle.reader.specs.Answer.{judged_number, judged_header}
 use Rattle.reader.specs.declared.place.Stepped.{Stepped}
 use Rattle.text.specs.Put.{decimal_of, hex_of}
 use Rattle.text.proofs.PutLaws.{decimal_length, hexes-length}
-use Rattle.script.specs.Answer.{field_text, time_text, state_text, flexray_text, error_text, ident_text, load_text, placed_text, item_text, judged_text, stepped_text, bad_text, numbered_text, back_text}
+use Rattle.text.proofs.DraftLaws.{field_length}
+use Rattle.script.specs.Answer.{time_text, state_text, flexray_text, error_text, ident_text, load_text, placed_text, item_text, judged_text, stepped_text, bad_text, numbered_text, back_text}
 
 pub hex_some : (bs : List ℕ) → (length bs ≡ 0 → ⊥) → 2 * length bs ≡ length (hex_of bs)
 hex_some [] h = absurd (h refl)
 hex_some (b ∷ bs) h = let e = hexes-length (b ∷ bs) in omega arith
-
-field_length : (v : ℕ) → length (field_text v) ≤ 21
-unfolding field_text
-field_length v = let h = decimal_length v in omega arith
 
 time_length : (t : Time) → length (time_text t) ≤ 42
 unfolding time_text

@@ -3,9 +3,9 @@
 ghost use Rattle.std.specs.Prelude.{◌≡◌, true, ◌∷◌, [], ◌++◌, length};
 ghost use Rattle.codec.specs.Number.{Wrote};
 ghost use Rattle.text.specs.Put.{decimal_of, hex_of};
-ghost use Rattle.text.specs.Draft.{Adds};
+ghost use Rattle.text.specs.Draft.{Adds, field_text};
 ghost use Rattle.reader.specs.Answer.{judged_number};
-ghost use Rattle.script.specs.Answer.{field_text, time_text, state_text, flexray_text, error_text, ident_text, load_text, placed_text, item_text, judged_text, stepped_text, bad_text, numbered_text, back_text, timed_text, bytes_text, taken_text};
+ghost use Rattle.script.specs.Answer.{time_text, state_text, flexray_text, error_text, ident_text, load_text, placed_text, item_text, judged_text, stepped_text, bad_text, numbered_text, back_text, timed_text, bytes_text, taken_text};
 
 use codec::header::Header;
 use codec::ident::Ident;
@@ -18,28 +18,19 @@ use text::draft::Draft;
 // Room for any answer but its bytes, which are written straight to the output.
 type Answer = Draft<256>;
 
-// A space, and a number.
-#[tactic(auto, unfolding(crate::specs::Answer::field_text))]
-fn field(draft: &mut Answer, v: u64)
-    ensures { Adds 256 draft.old (field_text v) draft.new }
-{
-    draft.push(b" ");
-    draft.decimal(v)
-}
-
 #[tactic(auto, unfolding(crate::specs::Answer::time_text))]
 fn time(draft: &mut Answer, t: Time)
     ensures { Adds 256 draft.old (time_text t) draft.new }
 {
-    field(draft, t.sec);
-    field(draft, u64::from(t.nano))
+    draft.field(t.sec);
+    draft.field(u64::from(t.nano))
 }
 
 fn state(draft: &mut Answer, shown: Option<u8>)
     ensures { Adds 256 draft.old (state_text shown) draft.new }
 {
     match shown {
-        Some(b) => field(draft, u64::from(b)),
+        Some(b) => draft.field(u64::from(b)),
         None => draft.push(b" -"),
     }
 }
@@ -48,7 +39,7 @@ fn state(draft: &mut Answer, shown: Option<u8>)
 fn flexray(draft: &mut Answer, channels: u8, slot: u16, cycle: u8)
     ensures { Adds 256 draft.old (flexray_text channels slot cycle) draft.new }
 {
-    field(draft, u64::from(channels));
+    draft.field(u64::from(channels));
     draft.push(b"/");
     draft.decimal(u64::from(slot));
     draft.push(b"/");
@@ -59,7 +50,7 @@ fn flexray(draft: &mut Answer, channels: u8, slot: u16, cycle: u8)
 fn error(draft: &mut Answer, channels: u8)
     ensures { Adds 256 draft.old (error_text channels) draft.new }
 {
-    field(draft, u64::from(channels));
+    draft.field(u64::from(channels));
     draft.push(b"/-/-")
 }
 
@@ -67,8 +58,8 @@ fn ident(draft: &mut Answer, id: Ident)
     ensures { Adds 256 draft.old (ident_text id) draft.new }
 {
     match id {
-        Ident::Can(key) => field(draft, u64::from(key)),
-        Ident::Lin(pid) => field(draft, u64::from(pid)),
+        Ident::Can(key) => draft.field(u64::from(key)),
+        Ident::Lin(pid) => draft.field(u64::from(pid)),
         Ident::FlexRay {
             channels,
             slot,
@@ -83,7 +74,7 @@ fn load(draft: &mut Answer, carries: bool, n: usize)
     ensures { Adds 256 draft.old (load_text carries n) draft.new }
 {
     if carries {
-        field(draft, n as u64)
+        draft.field(n as u64)
     } else {
         draft.push(b" -")
     }
@@ -94,7 +85,7 @@ fn placed(draft: &mut Answer, next: usize, t: Time)
     ensures { Adds 256 draft.old (placed_text next t) draft.new }
 {
     draft.push(b"0");
-    field(draft, next as u64);
+    draft.field(next as u64);
     time(draft, t)
 }
 
@@ -105,8 +96,8 @@ fn item(draft: &mut Answer, it: Item, n: usize)
     let shown = it.state;
     let id = it.ident;
     let kind = u8::from(codec::ident::kind_of(id));
-    field(draft, u64::from(kind));
-    field(draft, u64::from(it.network));
+    draft.field(u64::from(kind));
+    draft.field(u64::from(it.network));
     state(draft, shown);
     ident(draft, id);
     load(draft, it.carries, n)
@@ -136,9 +127,9 @@ fn lay_judged(draft: &mut Answer, judged: Result<Header, Refusal>)
     let header = judged.unwrap_or(NO_HEADER);
     let t = header.time;
     draft.decimal(u64::from(answer));
-    field(draft, u64::from(header.sequence));
+    draft.field(u64::from(header.sequence));
     time(draft, t);
-    field(draft, u64::from(header.length))
+    draft.field(u64::from(header.length))
 }
 
 fn lay_stepped(draft: &mut Answer, stepped: Result<Option<Stepped>, Refusal>)
@@ -185,7 +176,7 @@ pub fn bad(out: &mut [u8], at: usize, line: u64) -> Option<usize>
 {
     let mut draft = Answer::new();
     draft.push(b"?");
-    field(&mut draft, line);
+    draft.field(line);
     draft.put(out, at)
 }
 
@@ -201,7 +192,7 @@ fn lay_numbered(draft: &mut Answer, answer: u8, v: u64)
     ensures { Adds 256 draft.old (numbered_text answer v) draft.new }
 {
     draft.decimal(u64::from(answer));
-    field(draft, v)
+    draft.field(v)
 }
 
 pub fn numbered(out: &mut [u8], at: usize, answer: u8, v: u64) -> Option<usize>
@@ -218,7 +209,7 @@ fn lay_back(draft: &mut Answer, answer: u8, back: u64)
 {
     draft.decimal(u64::from(answer));
     draft.push(b" back");
-    field(draft, back)
+    draft.field(back)
 }
 
 // The answer of a report or a tick: how far the clock was behind, where it was.

@@ -14,7 +14,7 @@ use Rattle.std.specs.Prelude.{Option}
 use Rattle.codec.specs.Number.{over, Wrote}
 use Rattle.codec.proofs.NumberLaws.{kept}
 use Rattle.text.specs.Put.{decimal_of}
-use Rattle.text.specs.Draft.{Adds, numbers_of, row_of}
+use Rattle.text.specs.Draft.{Adds, field_text, numbers_of, row_of}
 use Rattle.text.proofs.PutLaws.{decimal_length}
 
 -- a text cut twice
@@ -76,14 +76,13 @@ pub rowing_first : {n : ℕ} {name vs z d : List ℕ} → z ≡ [] → Adds n z 
 rowing_first {n} {name} {vs} {z} {d} e p =
     record { left = ap (λ (x : List ℕ). take n (x ++ numbers_of vs)) (adds_first e p) ∙ cut_twice n name (numbers_of vs) }
 
-pub rowing_more : {n : ℕ} {name vs d d' d'' : List ℕ} {i v : ℕ} → Rowing n name vs d i → i < length vs → v ≡ get_or vs i 0 → Adds n d (32 ∷ []) d'
-    → Adds n d' (decimal_of v) d'' → Rowing n name vs d'' (i + 1)
-rowing_more {n} {name} {vs} {d} {d'} {d''} {i} {v} g h e p q =
-    let a = adds_then p q in
+pub rowing_more : {n : ℕ} {name vs d d' : List ℕ} {i v : ℕ} → Rowing n name vs d i → i < length vs → v ≡ get_or vs i 0 → Adds n d (field_text v) d'
+    → Rowing n name vs d' (i + 1)
+rowing_more {n} {name} {vs} {d} {d'} {i} {v} g h e p =
     let rest : List ℕ = numbers_of (drop (suc i) vs) in
-    let t : numbers_of (drop i vs) ≡ (32 ∷ decimal_of v) ++ rest = rw (drop-cons vs i 0 h, ← e) refl in
-    let c : take n (d'' ++ rest) ≡ take n (d ++ numbers_of (drop i vs))
-    = ap (λ (x : List ℕ). take n (x ++ rest)) a.is ∙ cut_twice n (d ++ (32 ∷ decimal_of v)) rest ∙ ap (take n) (append_assoc d (32 ∷ decimal_of v) rest)
+    let t : numbers_of (drop i vs) ≡ field_text v ++ rest = rw (drop-cons vs i 0 h, ← e) refl in
+    let c : take n (d' ++ rest) ≡ take n (d ++ numbers_of (drop i vs))
+    = ap (λ (x : List ℕ). take n (x ++ rest)) p.is ∙ cut_twice n (d ++ field_text v) rest ∙ ap (take n) (append_assoc d (field_text v) rest)
       ∙ ap (λ (x : List ℕ). take n (d ++ x)) (sym t) in
     rw (add-one i) record { left = c ∙ g.left }
 
@@ -95,11 +94,15 @@ rowing_end {n} {name} {vs} {d} {d'} {i} g h p =
     p.is ∙ sym (cut_twice n d (10 ∷ [])) ∙ ap (λ (x : List ℕ). take n (x ++ (10 ∷ []))) f ∙ cut_twice n (name ++ numbers_of vs) (10 ∷ [])
 
 -- a number has at most 20 digits
+pub field_length : (v : ℕ) → length (field_text v) ≤ 21
+unfolding field_text
+field_length v = omega (arith, decimal_length v)
+
 numbers_most : (vs : List ℕ) → length (numbers_of vs) ≤ 21 * length vs
 numbers_most [] = omega arith
 numbers_most (v ∷ vs) =
     let r = numbers_most vs in
-    simp length-append (omega (arith, decimal_length v))
+    simp length-append (omega (arith, field_length v))
 
 pub row_most : (j k : ℕ) (name vs : List ℕ) → length name ≤ j → length vs ≤ k → length (row_of name vs) ≤ j + 21 * k + 1
 unfolding row_of

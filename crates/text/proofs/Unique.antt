@@ -15,6 +15,7 @@ use Rattle.text.proofs.digit.written.Reads as written
 use Rattle.text.proofs.draft.Draft.new.Reads as new
 use Rattle.text.proofs.draft.Draft.push.Reads as push
 use Rattle.text.proofs.draft.Draft.decimal.Reads as added
+use Rattle.text.proofs.draft.Draft.field.Reads as field
 use Rattle.text.proofs.draft.Draft.row.Reads as row
 use Rattle.text.proofs.draft.Draft.as_slice.Reads as as_slice
 use Rattle.text.proofs.draft.Draft.put.Reads as put
@@ -67,6 +68,9 @@ module _ (n : _) (fits : _) where
 
   pub added_unique : (κs : _) (a : _) (r r' : _) (x x' : _) → added.Post n fits κs a r x → added.Post n fits κs a r' x' → x.0.now ≡ x'.0.now
   added_unique κs a r r' x x' p q = p.is ∙ sym q.is
+
+  pub field_unique : (κs : _) (a : _) (r r' : _) (x x' : _) → field.Post n fits κs a r x → field.Post n fits κs a r' x' → x.0.now ≡ x'.0.now
+  field_unique κs a r r' x x' p q = p.is ∙ sym q.is
 
   pub as_slice_unique : (κs : _) (a : _) (r r' : _) (x x' : _) → as_slice.Post n fits κs a r x → as_slice.Post n fits κs a r' x' → r.now ≡ r'.now
   as_slice_unique κs a r r' x x' p q = p ∙ sym q

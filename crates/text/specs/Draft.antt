@@ -6,10 +6,13 @@ use Rattle.text.specs.Put.{decimal_of}
 pub record Adds (n : ℕ) (d bs d' : List ℕ) : Type 0 where
   pub is : d' ≡ take n (d ++ bs)
 
--- numbers, each behind a space (32)
+-- a number behind a space (32)
+unfoldable pub field_text : ℕ → List ℕ
+field_text v = 32 ∷ decimal_of v
+
 abbrev pub numbers_of : List ℕ → List ℕ
 numbers_of [] = []
-numbers_of (v ∷ vs) = 32 ∷ decimal_of v ++ numbers_of vs
+numbers_of (v ∷ vs) = field_text v ++ numbers_of vs
 
 -- a name, numbers and a line feed (10)
 unfoldable pub row_of : List ℕ → List ℕ → List ℕ

@@ -3,7 +3,7 @@
 ghost use Rattle.std.specs.Prelude.{◌≡◌, [], take, true};
 ghost use Rattle.codec.specs.Number.{Wrote};
 ghost use Rattle.text.specs.Put.{decimal_of};
-ghost use Rattle.text.specs.Draft.{Adds, row_of};
+ghost use Rattle.text.specs.Draft.{Adds, field_text, row_of};
 
 use std::marker::Model;
 
@@ -50,6 +50,14 @@ impl<const N: usize> Draft<N> {
         self.push(&digits[start..])
     }
 
+    // A number behind a space.
+    pub fn field(&mut self, v: u64)
+        ensures { Adds N self.old (field_text v) self.new }
+    {
+        self.push(b" ");
+        self.decimal(v)
+    }
+
     // A line of a name and numbers, each behind a space.
     pub fn row(name: &[u8], vs: &[u64]) -> Self
         ensures { result ≡ take N (row_of name.now vs.now) }
@@ -57,8 +65,7 @@ impl<const N: usize> Draft<N> {
         let mut line = Self::new();
         line.push(name);
         for &v in vs {
-            line.push(b" ");
-            line.decimal(v);
+            line.field(v);
         }
         line.push(b"\n");
         line

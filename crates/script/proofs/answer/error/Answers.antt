@@ -1,6 +1,7 @@
 use Rattle.std.proofs.Common.{ap}
 use Rattle.text.proofs.DraftLaws.{adds_then, adds_as}
-use Rattle.script.specs.Answer.{field_text, error_text}
+use Rattle.text.specs.Draft.{field_text}
+use Rattle.script.specs.Answer.{error_text}
 use Rattle.script.proofs.answer.error.Goals as goal
 
 pub returns : goal.returns

@@ -1,7 +1,8 @@
 use Rattle.std.proofs.Common.{ap}
 use Rattle.text.proofs.DraftLaws.{adds_then, adds_as}
 use Rattle.text.specs.Put.{decimal_of}
-use Rattle.script.specs.Answer.{field_text, flexray_text}
+use Rattle.text.specs.Draft.{field_text}
+use Rattle.script.specs.Answer.{flexray_text}
 use Rattle.script.proofs.answer.flexray.Goals as goal
 
 pub returns : goal.returns

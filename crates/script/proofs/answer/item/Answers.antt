@@ -1,7 +1,8 @@
 use Rattle.std.proofs.Common.{ap, ◌∙◌}
 use Rattle.codec.specs.Ident.{network_type}
 use Rattle.text.proofs.DraftLaws.{adds_then, adds_as}
-use Rattle.script.specs.Answer.{field_text, item_text}
+use Rattle.text.specs.Draft.{field_text}
+use Rattle.script.specs.Answer.{item_text}
 use Rattle.script.proofs.answer.item.Goals as goal
 
 pub returns : goal.returns

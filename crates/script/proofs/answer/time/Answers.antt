@@ -1,6 +1,7 @@
 use Rattle.std.proofs.Common.{ap}
 use Rattle.text.proofs.DraftLaws.{adds_then, adds_as}
-use Rattle.script.specs.Answer.{field_text, time_text}
+use Rattle.text.specs.Draft.{field_text}
+use Rattle.script.specs.Answer.{time_text}
 use Rattle.script.proofs.answer.time.Goals as goal
 
 pub returns : goal.returns
