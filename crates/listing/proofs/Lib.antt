@@ -1,5 +1,4 @@
 pub mod FixedLaws
-pub mod SignLaws
 pub mod SpreadLaws
 pub mod EscapeLaws
 pub mod ItemLaws

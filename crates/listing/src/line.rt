@@ -11,7 +11,6 @@ use codec::header::Header;
 use codec::item::Item;
 use codec::time::Time;
 
-#[tactic(auto, unfolding(crate::specs::Line::frame_line))]
 pub fn frame(out: &mut [u8], at: usize, h: Header) -> Option<usize>
     ensures { Wrote true out.old at (frame_line h) out.new result }
 {
@@ -24,7 +23,6 @@ pub fn frame(out: &mut [u8], at: usize, h: Header) -> Option<usize>
     line.put(out, at)
 }
 
-#[tactic(auto, unfolding(crate::specs::Line::start_line))]
 pub fn start(out: &mut [u8], at: usize, t: Time) -> Option<usize>
     ensures { Wrote true out.old at (start_line t) out.new result }
 {
@@ -53,7 +51,6 @@ pub fn end(out: &mut [u8], at: usize, answer: u8, skipped: u32) -> Option<usize>
     Line::row(b"end", &[answer as u64, skipped as u64]).put(out, at)
 }
 
-#[tactic(auto, unfolding(crate::specs::Line::place_text))]
 fn place(line: &mut Line, start: Option<Time>, t: Time, it: Item)
     ensures { Adds 256 line.old (place_text start t it) line.new }
 {
@@ -64,7 +61,6 @@ fn place(line: &mut Line, start: Option<Time>, t: Time, it: Item)
     line.field(it.network as u64);
 }
 
-#[tactic(auto, unfolding(crate::specs::Line::shown_text))]
 fn shown(line: &mut Line, it: Item, n: usize)
     ensures { Adds 256 line.old (shown_text it n) line.new }
 {
@@ -75,7 +71,6 @@ fn shown(line: &mut Line, it: Item, n: usize)
 }
 
 // What stands before an item's bytes.
-#[tactic(auto, unfolding(crate::specs::Line::front_text))]
 fn front(line: &mut Line, start: Option<Time>, t: Time, it: Item, n: usize)
     ensures { Adds 256 line.old (front_text start t it n) line.new }
 {
@@ -88,7 +83,11 @@ fn front(line: &mut Line, start: Option<Time>, t: Time, it: Item, n: usize)
 fn with_bytes(out: &mut [u8], at: usize, front: &[u8], src: &[u8]) -> Option<usize>
     ensures { Wrote true out.old at (front.now ++ spread (fixed_of 16 2) src.now ++ (10 ∷ [])) out.new result }
 {
-    let room = out.len().checked_sub(at)?.checked_sub(front.len())?.checked_sub(1)?;
+    let room = out
+        .len()
+        .checked_sub(at)?
+        .checked_sub(front.len())?
+        .checked_sub(1)?;
     if room / 2 < src.len() {
         return None;
     }

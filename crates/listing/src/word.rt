@@ -19,7 +19,6 @@ fn dash(line: &mut Line)
     line.push(b" -");
 }
 
-#[tactic(auto, unfolding(crate::specs::Line::hex_text))]
 fn hex<const WIDTH: usize>(line: &mut Line, v: u64)
     requires { WIDTH ≤ 8 }
     ensures { Adds 256 line.old (hex_text WIDTH v) line.new }
@@ -28,7 +27,6 @@ fn hex<const WIDTH: usize>(line: &mut Line, v: u64)
     line.push(&crate::digit::fixed::<16, WIDTH>(v));
 }
 
-#[tactic(auto, unfolding(crate::specs::Line::time_text))]
 pub(crate) fn time(line: &mut Line, t: Time)
     ensures { Adds 256 line.old (time_text t) line.new }
 {
@@ -47,7 +45,6 @@ fn sign(line: &mut Line, n: i64)
     }
 }
 
-#[tactic(auto, unfolding(crate::specs::Line::signed_text))]
 fn signed(line: &mut Line, n: i64)
     ensures { Adds 256 line.old (signed_text n) line.new }
 {
@@ -100,7 +97,6 @@ fn is_fd(id: Ident) -> bool
     }
 }
 
-#[tactic(auto, unfolding(crate::specs::Line::bus_text))]
 pub(crate) fn bus(line: &mut Line, id: Ident)
     ensures { Adds 256 line.old (bus_text id) line.new }
 {
@@ -128,7 +124,6 @@ fn can(line: &mut Line, key: u32)
     }
 }
 
-#[tactic(auto, unfolding(crate::specs::Line::channels_text))]
 fn channels(line: &mut Line, c: u8)
     ensures { Adds 256 line.old (channels_text c) line.new }
 {
@@ -137,7 +132,6 @@ fn channels(line: &mut Line, c: u8)
     line.push(only_if(c / 2 % 2 == 1, b"B"));
 }
 
-#[tactic(auto, unfolding(crate::specs::Line::flexray_text))]
 fn flexray(line: &mut Line, c: u8, slot: u16, cycle: u8)
     ensures { Adds 256 line.old (flexray_text c slot cycle) line.new }
 {
@@ -148,7 +142,6 @@ fn flexray(line: &mut Line, c: u8, slot: u16, cycle: u8)
     line.decimal(cycle as u64);
 }
 
-#[tactic(auto, unfolding(crate::specs::Line::error_text))]
 fn error(line: &mut Line, c: u8)
     ensures { Adds 256 line.old (error_text c) line.new }
 {

@@ -18,7 +18,6 @@ use text::draft::Draft;
 // Room for any answer but its bytes, which are written straight to the output.
 type Answer = Draft<256>;
 
-#[tactic(auto, unfolding(crate::specs::Answer::time_text))]
 fn time(draft: &mut Answer, t: Time)
     ensures { Adds 256 draft.old (time_text t) draft.new }
 {
@@ -35,7 +34,6 @@ fn state(draft: &mut Answer, shown: Option<u8>)
     }
 }
 
-#[tactic(auto, unfolding(crate::specs::Answer::flexray_text))]
 fn flexray(draft: &mut Answer, channels: u8, slot: u16, cycle: u8)
     ensures { Adds 256 draft.old (flexray_text channels slot cycle) draft.new }
 {
@@ -46,7 +44,6 @@ fn flexray(draft: &mut Answer, channels: u8, slot: u16, cycle: u8)
     draft.decimal(u64::from(cycle))
 }
 
-#[tactic(auto, unfolding(crate::specs::Answer::error_text))]
 fn error(draft: &mut Answer, channels: u8)
     ensures { Adds 256 draft.old (error_text channels) draft.new }
 {
@@ -80,7 +77,6 @@ fn load(draft: &mut Answer, carries: bool, n: usize)
     }
 }
 
-#[tactic(auto, unfolding(crate::specs::Answer::placed_text))]
 fn placed(draft: &mut Answer, next: usize, t: Time)
     ensures { Adds 256 draft.old (placed_text next t) draft.new }
 {
@@ -89,7 +85,6 @@ fn placed(draft: &mut Answer, next: usize, t: Time)
     time(draft, t)
 }
 
-#[tactic(auto, unfolding(crate::specs::Answer::item_text))]
 fn item(draft: &mut Answer, it: Item, n: usize)
     ensures { Adds 256 draft.old (item_text it n) draft.new }
 {
@@ -119,7 +114,6 @@ fn number_of(judged: Result<Header, Refusal>) -> u8
     }
 }
 
-#[tactic(auto, unfolding(crate::specs::Answer::judged_text))]
 fn lay_judged(draft: &mut Answer, judged: Result<Header, Refusal>)
     ensures { Adds 256 draft.old (judged_text judged) draft.new }
 {
@@ -187,7 +181,6 @@ pub fn done(out: &mut [u8], at: usize, answer: u8) -> Option<usize>
     text::put::decimal(out, at, u64::from(answer))
 }
 
-#[tactic(auto, unfolding(crate::specs::Answer::numbered_text))]
 fn lay_numbered(draft: &mut Answer, answer: u8, v: u64)
     ensures { Adds 256 draft.old (numbered_text answer v) draft.new }
 {
@@ -203,7 +196,6 @@ pub fn numbered(out: &mut [u8], at: usize, answer: u8, v: u64) -> Option<usize>
     draft.put(out, at)
 }
 
-#[tactic(auto, unfolding(crate::specs::Answer::back_text))]
 fn lay_back(draft: &mut Answer, answer: u8, back: u64)
     ensures { Adds 256 draft.old (back_text answer back) draft.new }
 {
@@ -243,7 +235,6 @@ fn before_bytes(out: &mut [u8], at: usize, front: &[u8], part: &[u8]) -> Option<
     text::put::hex(out, middle, part)
 }
 
-#[tactic(auto, unfolding(crate::specs::Answer::bytes_text))]
 pub fn with_bytes(out: &mut [u8], at: usize, answer: u8, part: &[u8]) -> Option<usize>
     ensures { Wrote true out.old at (bytes_text answer part.now) out.new result }
 {
@@ -253,7 +244,6 @@ pub fn with_bytes(out: &mut [u8], at: usize, answer: u8, part: &[u8]) -> Option<
     before_bytes(out, at, draft.as_slice(), part)
 }
 
-#[tactic(auto, unfolding(crate::specs::Answer::taken_text))]
 pub fn taken(out: &mut [u8], at: usize, answer: u8, size: u64, part: &[u8]) -> Option<usize>
     ensures { Wrote true out.old at (taken_text answer size part.now) out.new result }
 {

@@ -1,5 +1,5 @@
 -- Laws of a text that grows at its end, of any room. Assumes nothing.
-use Prim.Native.Nat.{ℕ, zero, suc, ◌+◌, ◌-◌, ◌*◌, ◌≤◌, ◌<◌}
+use Prim.Native.Nat.{ℕ, suc, ◌+◌, ◌-◌, ◌*◌, ◌≤◌, ◌<◌}
 use mathlib.Core.Path.{◌≡◌, refl, sym, ◌∙◌, ap}
 use mathlib.Core.Bool.{Bool, true, false}
 use mathlib.Core.List.{List, [], ◌∷◌, ◌++◌, append_assoc, append-nil}
@@ -13,7 +13,6 @@ use Rattle.std.proofs.lemmas.List.{take-append-le}
 use Rattle.std.specs.Prelude.{Option}
 use Rattle.codec.specs.Number.{over, Wrote}
 use Rattle.codec.proofs.NumberLaws.{kept}
-use Rattle.text.specs.Put.{decimal_of}
 use Rattle.text.specs.Draft.{Adds, field_text, numbers_of, row_of}
 use Rattle.text.proofs.PutLaws.{decimal_length}
 
@@ -49,10 +48,6 @@ adds_all {n} {z} {x} e p h = adds_first e p ∙ take_all n x h
 pub draft_wrote : {n : ℕ} {z x d l l' : List ℕ} {at : ℕ} {r : Option ℕ} → z ≡ [] → Adds n z x d → length x ≤ n → Wrote true l at d l' r → Wrote true l at x l' r
 draft_wrote e p h w = rw (adds_all e p h) at w
 
--- no text is longer than its room
-pub adds_length : {n : ℕ} {a b x : List ℕ} → Adds n a x b → length b ≤ n
-adds_length {n} {a} {b} {x} p = rw p.is (omega (arith, length-take n (a ++ x)))
-
 -- the bytes of a push
 pub pushed : (n : ℕ) (b : List ℕ) (k : ℕ) (s : List ℕ) {old part l' : List ℕ} {r : Option ℕ} → length b ≡ n → k ≤ n → take k b ≡ old → part ≡ take (n - k) s
     → Wrote true b k part l' r → Adds n old s (take (k + length part) l')
@@ -83,7 +78,7 @@ rowing_more {n} {name} {vs} {d} {d'} {i} {v} g h e p =
     let t : numbers_of (drop i vs) ≡ field_text v ++ rest = rw (drop-cons vs i 0 h, ← e) refl in
     let c : take n (d' ++ rest) ≡ take n (d ++ numbers_of (drop i vs))
     = ap (λ (x : List ℕ). take n (x ++ rest)) p.is ∙ cut_twice n (d ++ field_text v) rest ∙ ap (take n) (append_assoc d (field_text v) rest)
-      ∙ ap (λ (x : List ℕ). take n (d ++ x)) (sym t) in
+    ∙ ap (λ (x : List ℕ). take n (d ++ x)) (sym t) in
     rw (add-one i) record { left = c ∙ g.left }
 
 pub rowing_end : {n : ℕ} {name vs d d' : List ℕ} {i : ℕ} → Rowing n name vs d i → length vs ≤ i → Adds n d (10 ∷ []) d' → d' ≡ take n (row_of name vs)

@@ -1,7 +1,6 @@
 use Rattle.std.proofs.Common.{sym, ◌∙◌, length, arith, length-append}
 use borrow.Author.Tests.{eqb-true, eqb-false}
 use Rattle.text.proofs.DraftLaws.{adds_then, adds_all, draft_wrote}
-use Rattle.listing.specs.Line.{front_text}
 use Rattle.listing.proofs.ItemLaws.{item_bare, item_loaded}
 use Rattle.listing.proofs.RoomLaws.{front_most}
 use Rattle.listing.proofs.line.item.Goals as goal
@@ -17,5 +16,8 @@ pub returns : goal.returns
 returns c =
     let a = c.args in
     let n = length a.payload.now in
-    rw (item_loaded a.start a.time a.it a.payload.now _ c.only_if-bytes.ensures (eqb-false _ 0 (sym c.is_empty.ensures ∙ c.if-is_empty.false)),
-    ← adds_all c.new-line.ensures c.front.ensures (omega (arith, front_most a.start a.time a.it n)), ← c.as_slice.ensures) c.with_bytes.ensures
+    rw (
+      item_loaded a.start a.time a.it a.payload.now _ c.only_if-bytes.ensures (eqb-false _ 0 (sym c.is_empty.ensures ∙ c.if-is_empty.false)),
+      ← adds_all c.new-line.ensures c.front.ensures (omega (arith, front_most a.start a.time a.it n)),
+      ← c.as_slice.ensures,
+    ) c.with_bytes.ensures
