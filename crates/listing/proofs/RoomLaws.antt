@@ -35,12 +35,12 @@ use Rattle.tape.specs.Sample.{position_of}
 use Rattle.tape.specs.declared.sample.TooFar.{TooFar}
 use Rattle.text.specs.Put.{hexes}
 use Rattle.text.proofs.PutLaws.{decimal_length, hexes-length}
-use Rattle.text.proofs.DraftLaws.{row_most}
+use Rattle.text.proofs.DraftLaws.{field_length, row_most}
 use Rattle.listing.proofs.FixedLaws.{fixed_length}
 use Rattle.listing.proofs.SpreadLaws.{pairs-length}
 use Rattle.listing.proofs.EscapeLaws.{note_length}
 use Rattle.listing.proofs.LinesLaws.{lines_past, lines_bad, lines_item}
-use Rattle.listing.specs.Line.{field_text, hex_text, time_text, sign_text, signed_text, placed_text, position_text, kind_text, is_fd, bus_text, id_digits, can_text, channels_text, flexray_text, error_text, ident_text, state_text, load_text, bytes_text, place_text, shown_text, front_text, item_line, frame_line, start_line, refused_line, skipped_line, note_line, plain, escape_of, spread}
+use Rattle.listing.specs.Line.{hex_text, time_text, sign_text, signed_text, placed_text, position_text, kind_text, is_fd, bus_text, id_digits, can_text, channels_text, flexray_text, error_text, ident_text, state_text, load_text, bytes_text, place_text, shown_text, front_text, item_line, frame_line, start_line, refused_line, skipped_line, note_line, plain, escape_of, spread}
 use Rattle.listing.specs.Field.{Text, item_lines, good_lines, found_lines, field_lines, with, with_all, text_of, whole_of}
 
 text_as : {b b' : List ℕ} {a a' : ℕ} → b ≡ b' → a ≡ a' → ◌≡◌ {A = Text} (record { bytes = b; at = a }) (record { bytes = b'; at = a' })
@@ -61,10 +61,6 @@ all_room (line ∷ lines) t h =
     rw (with-room t line k) (i ∙ text_as (over-over t.bytes t.at line (text_of lines) k) (omega arith))
 
 -- the lengths of the words
-field_most : (v : ℕ) → length (field_text v) ≤ 21
-unfolding field_text
-field_most v = let d = decimal_length v in omega arith
-
 hex_most : (n v : ℕ) → length (hex_text n v) ≡ 1 + n
 unfolding hex_text
 hex_most n v = let d = fixed_length 16 n v in omega arith
@@ -72,7 +68,7 @@ hex_most n v = let d = fixed_length 16 n v in omega arith
 time_most : (t : Time) → length (time_text t) ≤ 31
 unfolding time_text
 time_most t =
-    let a = field_most t.sec in
+    let a = field_length t.sec in
     let b = fixed_length 10 9 t.nano in
     simp length-append (omega arith)
 
@@ -143,20 +139,20 @@ state_most (Some b) = let a = hex_most 2 b in omega arith
 state_most None = omega arith
 
 load_most : (b : Bool) (n : ℕ) → length (load_text b n) ≤ 21
-load_most true n = field_most n
+load_most true n = field_length n
 load_most false n = omega arith
 
 bytes_most : (bs : List ℕ) → length (bytes_text bs) ≤ 1 + 2 * length bs
 bytes_most [] = omega arith
 bytes_most (b ∷ bs) = let a = pairs-length (b ∷ bs) in omega arith
 
-front_most : (m : Option Time) (t : Time) (it : Item) (n : ℕ) → length (front_text m t it n) ≤ 156
+pub front_most : (m : Option Time) (t : Time) (it : Item) (n : ℕ) → length (front_text m t it n) ≤ 156
 unfolding front_text place_text shown_text
 front_most m t it n =
     let a = time_most t in
     let p = position_most m t in
     let b = bus_most it.ident in
-    let d = field_most it.network in
+    let d = field_length it.network in
     let e = ident_most it.ident in
     let f = state_most it.state in
     let g = load_most it.carries n in
@@ -201,15 +197,15 @@ module _ (m : Option Time) (t : Time) (s : List ℕ) (b : Bytes s) where
       go false e ih = items_step n at (leb-false (length s) at e) ih (read_item s at) refl
 
 -- a field's lines together
-frame_most : (h : Header) → length (frame_line h) ≤ 79
+pub frame_most : (h : Header) → length (frame_line h) ≤ 79
 unfolding frame_line
 frame_most h =
-    let a = field_most h.sequence in
+    let a = field_length h.sequence in
     let b = time_most h.time in
-    let d = field_most h.length in
+    let d = field_length h.length in
     simp length-append (omega arith)
 
-start_most : (t : Time) → length (start_line t) ≤ 37
+pub start_most : (t : Time) → length (start_line t) ≤ 37
 unfolding start_line
 start_most t = let a = time_most t in simp length-append (omega arith)
 

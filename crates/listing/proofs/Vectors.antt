@@ -11,8 +11,8 @@ use Rattle.codec.specs.declared.item.Item.{Item}
 use Rattle.std.specs.Prelude.{Option, Some, None}
 use Rattle.tape.specs.Sample.{sample_of, placed_of}
 use Rattle.text.specs.Put.{letter_of, capital_of, decimals, decimal_of}
-use Rattle.text.specs.Draft.{row_of}
-use Rattle.listing.specs.Line.{fixed_of, field_text, hex_text, time_text, signed_text, position_text, bus_text, id_digits, can_text, channels_text, flexray_text, error_text, place_text, shown_text, front_text, item_line, frame_line, start_line, refused_line, skipped_line, end_line, plain, escape_of, note_line}
+use Rattle.text.specs.Draft.{field_text, row_of}
+use Rattle.listing.specs.Line.{fixed_of, hex_text, time_text, signed_text, position_text, bus_text, id_digits, can_text, channels_text, flexray_text, error_text, place_text, shown_text, front_text, item_line, frame_line, start_line, refused_line, skipped_line, end_line, plain, escape_of, note_line}
 
 abbrev five : Time
 five = record { sec = 5; nano = 1 }
@@ -82,17 +82,17 @@ late = refl
 
 -- "refused 1 22"
 refused : refused_line 1 22 ≡ 114 ∷ 101 ∷ 102 ∷ 117 ∷ 115 ∷ 101 ∷ 100 ∷ 32 ∷ 49 ∷ 32 ∷ 50 ∷ 50 ∷ 10 ∷ []
-unfolding row_of decimal_of decimals
+unfolding row_of field_text decimal_of decimals
 refused = refl
 
 -- "skipped 9 65535"
 skipped : skipped_line 9 65535 ≡ 115 ∷ 107 ∷ 105 ∷ 112 ∷ 112 ∷ 101 ∷ 100 ∷ 32 ∷ 57 ∷ 32 ∷ 54 ∷ 53 ∷ 53 ∷ 51 ∷ 53 ∷ 10 ∷ []
-unfolding row_of decimal_of decimals
+unfolding row_of field_text decimal_of decimals
 skipped = refl
 
 -- "end 0 4294967295"
 end : end_line 0 4294967295 ≡ 101 ∷ 110 ∷ 100 ∷ 32 ∷ 48 ∷ 32 ∷ 52 ∷ 50 ∷ 57 ∷ 52 ∷ 57 ∷ 54 ∷ 55 ∷ 50 ∷ 57 ∷ 53 ∷ 10 ∷ []
-unfolding row_of decimal_of decimals
+unfolding row_of field_text decimal_of decimals
 end = refl
 
 -- "note "

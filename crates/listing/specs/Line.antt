@@ -10,7 +10,7 @@ use Rattle.codec.specs.declared.item.Item.{Item}
 use Rattle.tape.specs.Sample.{position_of}
 use Rattle.tape.specs.declared.sample.TooFar.{TooFar}
 use Rattle.text.specs.Put.{capital_of, decimal_of, hexes}
-use Rattle.text.specs.Draft.{row_of}
+use Rattle.text.specs.Draft.{field_text, row_of}
 
 -- the n low digits of v in a base, leading zeros shown
 unfoldable pub fixed_of : ℕ → ℕ → ℕ → List ℕ
@@ -21,10 +21,6 @@ fixed_of base (suc n) v = fixed_of base n (v / base) ++ (capital_of (v % base) �
 abbrev pub spread : (ℕ → List ℕ) → List ℕ → List ℕ
 spread f [] = []
 spread f (b ∷ bs) = f b ++ spread f bs
-
--- a decimal number
-unfoldable pub field_text : ℕ → List ℕ
-field_text v = 32 ∷ decimal_of v
 
 -- n hexadecimal digits
 unfoldable pub hex_text : ℕ → ℕ → List ℕ

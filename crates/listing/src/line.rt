@@ -1,7 +1,6 @@
 // Lines of a bounded length, put together first, so that an output without room for the whole of a line is left
 // as it was; and the line of an item, whose bytes may be many.
-ghost use Rattle.std.specs.Prelude.{◌≡◌, true, ◌∷◌, [], ◌++◌, ◌+◌, ◌≤◌, length};
-ghost use Rattle.codec.specs.Choice.{pick};
+ghost use Rattle.std.specs.Prelude.{◌≡◌, true, ◌∷◌, [], ◌++◌};
 ghost use Rattle.codec.specs.Number.{Wrote};
 ghost use Rattle.text.specs.Draft.{Adds};
 ghost use Rattle.listing.specs.Line.{fixed_of, spread, place_text, shown_text, front_text, frame_line, item_line, start_line, refused_line, skipped_line, end_line};
@@ -12,27 +11,25 @@ use codec::header::Header;
 use codec::item::Item;
 use codec::time::Time;
 
-#[tactic(auto, unfolding(crate::specs::Line::frame_line))]
 pub fn frame(out: &mut [u8], at: usize, h: Header) -> Option<usize>
     ensures { Wrote true out.old at (frame_line h) out.new result }
 {
     let mut line = Line::new();
-    word::lay(&mut line, b"frame");
-    word::field(&mut line, h.sequence as u64);
+    line.push(b"frame");
+    line.field(h.sequence as u64);
     word::time(&mut line, h.time);
-    word::field(&mut line, h.length as u64);
-    word::lay(&mut line, b"\n");
+    line.field(h.length as u64);
+    line.push(b"\n");
     line.put(out, at)
 }
 
-#[tactic(auto, unfolding(crate::specs::Line::start_line))]
 pub fn start(out: &mut [u8], at: usize, t: Time) -> Option<usize>
     ensures { Wrote true out.old at (start_line t) out.new result }
 {
     let mut line = Line::new();
-    word::lay(&mut line, b"start");
+    line.push(b"start");
     word::time(&mut line, t);
-    word::lay(&mut line, b"\n");
+    line.push(b"\n");
     line.put(out, at)
 }
 
@@ -55,34 +52,28 @@ pub fn end(out: &mut [u8], at: usize, answer: u8, skipped: u32) -> Option<usize>
     Line::row(b"end", &[answer as u64, skipped as u64]).put(out, at)
 }
 
-#[tactic(auto, unfolding(crate::specs::Line::place_text))]
 fn place(line: &mut Line, start: Option<Time>, t: Time, it: Item)
-    requires { length line.old + 85 ≤ 256 }
-    ensures { Adds 85 line.old (place_text start t it) line.new }
+    ensures { Adds 256 line.old (place_text start t it) line.new }
 {
-    word::lay(line, b" ");
+    line.push(b" ");
     word::time(line, t);
     word::position(line, start, t);
     word::bus(line, it.ident);
-    word::field(line, it.network as u64);
+    line.field(it.network as u64);
 }
 
-#[tactic(auto, unfolding(crate::specs::Line::shown_text))]
 fn shown(line: &mut Line, it: Item, n: usize)
-    requires { length line.old + 76 ≤ 256 }
-    ensures { Adds 76 line.old (shown_text it n) line.new }
+    ensures { Adds 256 line.old (shown_text it n) line.new }
 {
     word::ident(line, it.ident);
     word::state(line, it.state);
     word::load(line, it.carries, n);
-    word::lay(line, b" ");
+    line.push(b" ");
 }
 
 // What stands before an item's bytes.
-#[tactic(auto, unfolding(crate::specs::Line::front_text))]
 fn front(line: &mut Line, start: Option<Time>, t: Time, it: Item, n: usize)
-    requires { length line.old + 161 ≤ 256 }
-    ensures { Adds 161 line.old (front_text start t it n) line.new }
+    ensures { Adds 256 line.old (front_text start t it n) line.new }
 {
     place(line, start, t, it);
     shown(line, it, n);
@@ -102,12 +93,6 @@ fn with_bytes(out: &mut [u8], at: usize, front: &[u8], src: &[u8]) -> Option<usi
     Some(crate::escape::lay(out, b, b"\n"))
 }
 
-fn carried(carries: bool, payload: &[u8]) -> &[u8]
-    ensures { result.now ≡ pick carries payload.now [] }
-{
-    if carries { payload } else { &payload[..0] }
-}
-
 pub fn item(
     out: &mut [u8],
     at: usize,
@@ -120,9 +105,9 @@ pub fn item(
 {
     let mut line = Line::new();
     front(&mut line, start, time, it, payload.len());
-    let bytes = carried(it.carries, payload);
+    let bytes = word::only_if(it.carries, payload);
     if bytes.is_empty() {
-        word::lay(&mut line, b"-\n");
+        line.push(b"-\n");
         return line.put(out, at);
     }
     with_bytes(out, at, line.as_slice(), bytes)

@@ -4,13 +4,13 @@ use mathlib.Core.Path.{◌≡◌, refl, ◌∙◌}
 use mathlib.Core.Bool.{Bool, true, false}
 use mathlib.Core.List.{List, [], ◌∷◌}
 use native.Mathlib.Omega.{arith}
-use lib.ListN.{length}
+use lib.ListN.{length, take}
 use lib.Dec.{eqb}
 use borrow.Author.Tests.{ne_eqb}
 use Rattle.codec.specs.Choice.{pick}
 use Rattle.codec.specs.Number.{Wrote}
 use Rattle.std.specs.Prelude.{Option, Result, Ok, Err}
-use Rattle.text.specs.Draft.{row_of, rowed}
+use Rattle.text.specs.Draft.{row_of}
 use Rattle.text.proofs.DraftLaws.{row_is, row_most, row_put}
 use Rattle.recording.specs.Error.{number_of}
 use Rattle.recording.specs.declared.error.RecordError.{RecordError}
@@ -22,12 +22,12 @@ most : (name vs : List ℕ) → length name ≤ 8 → length vs ≤ 3 → length
 most name vs = row_most 8 3 name vs
 
 -- so that a line of 128 has room for any
-pub said : (name vs : List ℕ) {d l l' : List ℕ} {at : ℕ} {r : Option ℕ} → d ≡ rowed 128 name vs → Wrote true l at d l' r → length name ≤ 8 → length vs ≤ 3
+pub said : (name vs : List ℕ) {d l l' : List ℕ} {at : ℕ} {r : Option ℕ} → d ≡ take 128 (row_of name vs) → Wrote true l at d l' r → length name ≤ 8 → length vs ≤ 3
     → Wrote true l at (row_of name vs) l' r
-said name vs e w p q = row_put 8 3 name vs e w p q (omega arith)
+said name vs e w p q = row_put {n = 128} 8 3 name vs e w p q (omega arith)
 
-pub row_said : (name vs : List ℕ) {d : List ℕ} → d ≡ rowed 128 name vs → length name ≤ 8 → length vs ≤ 3 → d ≡ row_of name vs
-row_said name vs e p q = e ∙ row_is 8 3 name vs p q (omega arith)
+pub row_said : (name vs : List ℕ) {d : List ℕ} → d ≡ take 128 (row_of name vs) → length name ≤ 8 → length vs ≤ 3 → d ≡ row_of name vs
+row_said name vs e p q = row_is {n = 128} 8 3 name vs e p q (omega arith)
 
 -- the line of a field that is not bad
 name_most : (found : Found) → length (name_of found) ≤ 8
@@ -42,8 +42,8 @@ named_line tag n Found.Note = refl
 named_line tag n (Found.Start t) = refl
 named_line tag n Found.Skipped = refl
 
-pub named : (tag n : ℕ) (found : Found) {name d : List ℕ} → name ≡ name_of found → d ≡ rowed 128 name (tag ∷ n ∷ []) → d ≡ found_line tag n (Ok found)
-named tag n found e f = f ∙ rw e (row_is 8 3 (name_of found) (tag ∷ n ∷ []) (name_most found) (omega arith) (omega arith) ∙ named_line tag n found)
+pub named : (tag n : ℕ) (found : Found) {name d : List ℕ} → name ≡ name_of found → d ≡ take 128 (row_of name (tag ∷ n ∷ [])) → d ≡ found_line tag n (Ok found)
+named tag n found e f = row_said (name_of found) (tag ∷ n ∷ []) (rw e at f) (name_most found) (omega arith) ∙ named_line tag n found
 
 pub rest_some : (n : ℕ) → (n ≡ 0 → ⊥) → rest_text n ≡ row_of (114 ∷ 101 ∷ 115 ∷ 116 ∷ []) (40 ∷ n ∷ [])
 unfolding rest_text

@@ -7,7 +7,7 @@ use Rattle.codec.specs.Header.{read_header, time_at}
 use Rattle.reader.specs.Frame.{judge_of}
 use Rattle.recording.specs.File.{complete, along, fields_of, left_of, frame_found, note_found, start_found, short_of, verdict, keeps, findings_of}
 use Rattle.text.specs.Put.{decimals, decimal_of}
-use Rattle.text.specs.Draft.{row_of}
+use Rattle.text.specs.Draft.{field_text, row_of}
 use Rattle.mending.specs.Copy.{along_kept, copy_of}
 use Rattle.mending.specs.Check.{good_line, bad_line, unknown_line, rest_text, fields_line, checked_of}
 
@@ -24,17 +24,17 @@ copy_vector = refl
 
 pub check_vector : checked_of damaged
     ≡ good_line 2 2 ++ bad_line 1 20 1 ++ unknown_line 9 1 ++ bad_line 3 42 10 ++ good_line 2 0 ++ rest_text 2 ++ fields_line (record { good = 2; bad = 2 }) 1
-unfolding checked_of findings_of fields_of left_of along complete verdict frame_found note_found start_found short_of time_at keeps word word_at fits judge_of read_header rest_text row_of decimal_of decimals
+unfolding checked_of findings_of fields_of left_of along complete verdict frame_found note_found start_found short_of time_at keeps word word_at fits judge_of read_header rest_text row_of field_text decimal_of decimals
 check_vector = refl
 
 -- "bad 1 20 1"
 pub line_vector : bad_line 1 20 1 ≡ 98 ∷ 97 ∷ 100 ∷ 32 ∷ 49 ∷ 32 ∷ 50 ∷ 48 ∷ 32 ∷ 49 ∷ 10 ∷ []
-unfolding row_of decimal_of decimals
+unfolding row_of field_text decimal_of decimals
 line_vector = refl
 
 -- "rest 40 2", and no line where nothing is left
 pub rest_vector : rest_text 2 ≡ 114 ∷ 101 ∷ 115 ∷ 116 ∷ 32 ∷ 52 ∷ 48 ∷ 32 ∷ 50 ∷ 10 ∷ []
-unfolding rest_text row_of decimal_of decimals
+unfolding rest_text row_of field_text decimal_of decimals
 rest_vector = refl
 
 pub no_rest_vector : rest_text 0 ≡ []

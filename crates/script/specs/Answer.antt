@@ -7,16 +7,13 @@ use Rattle.codec.specs.declared.time.Time.{Time}
 use Rattle.codec.specs.declared.ident.Ident.{Ident}
 use Rattle.codec.specs.declared.item.Item.{Item}
 use Rattle.text.specs.Put.{decimal_of, hex_of}
+use Rattle.text.specs.Draft.{field_text}
 use Rattle.reader.specs.Answer.{judged_number, judged_header}
 use Rattle.codec.specs.declared.header.Header.{Header}
 use Rattle.codec.specs.declared.refusal.Refusal.{Refusal}
 use Rattle.reader.specs.declared.place.Stepped.{Stepped}
 
--- a space (32) and a number
-unfoldable pub field_text : ℕ → List ℕ
-field_text v = 32 ∷ decimal_of v
-
--- a space and '-' (45) for what is not there
+-- a space (32) and '-' (45) for what is not there
 abbrev pub dash : List ℕ
 dash = 32 ∷ 45 ∷ []
 

@@ -1,130 +1,114 @@
--- Laws of a line that grows at its end. Assumes nothing.
-use Prim.Native.Nat.{ℕ, zero, suc, ◌+◌, ◌*◌, ◌≤◌, ◌<◌}
+-- Laws of a text that grows at its end, of any room. Assumes nothing.
+use Prim.Native.Nat.{ℕ, suc, ◌+◌, ◌-◌, ◌*◌, ◌≤◌, ◌<◌}
 use mathlib.Core.Path.{◌≡◌, refl, sym, ◌∙◌, ap}
 use mathlib.Core.Bool.{Bool, true, false}
 use mathlib.Core.List.{List, [], ◌∷◌, ◌++◌, append_assoc, append-nil}
 use native.Mathlib.Numerals.{add-one}
 use native.Mathlib.Omega.{arith}
-use lib.ListN.{length, take, drop, get_or, length-append, drop_of_length-le}
-use lib.Seq.{take_at, length-take-le, drop-cons}
+use lib.ListN.{length, take, drop, get_or, length-append, length-take, drop_of_length-le}
+use lib.Seq.{take_all, take-append_seam, take-append-add, drop-cons}
 use lib.Dec.{leb}
-use borrow.Author.Tests.{le-leb}
-use Rattle.codec.specs.Choice.{pick}
-use Rattle.codec.specs.Number.{over, fits, Wrote}
-use Rattle.std.specs.Prelude.{Option, Some, None}
-use Rattle.codec.proofs.Opened.{never}
-use Rattle.text.specs.Put.{decimal_of}
-use Rattle.text.specs.Draft.{added, numbers_of, numbered, row_of, rowed, Adds}
+use borrow.Author.Tests.{leb-true, leb-false}
+use Rattle.std.proofs.lemmas.List.{take-append-le}
+use Rattle.std.specs.Prelude.{Option}
+use Rattle.codec.specs.Number.{over, Wrote}
+use Rattle.codec.proofs.NumberLaws.{kept}
+use Rattle.text.specs.Draft.{Adds, field_text, numbers_of, row_of}
 use Rattle.text.proofs.PutLaws.{decimal_length}
 
--- bs written behind the front of bytes
-written_front : (bytes bs : List ℕ) (at : ℕ) → at ≤ length bytes → take (at + length bs) (over bytes at bs) ≡ take at bytes ++ bs
-written_front bytes bs at h =
-    let e : length (take at bytes) ≡ at = length-take-le at bytes h in
-    let n : length (take at bytes ++ bs) ≡ at + length bs = rw (length-append, e) refl in
-    take_at (take at bytes ++ bs) (drop (at + length bs) bytes) (at + length bs) n
+-- a text cut twice
+cut_twice : (n : ℕ) (a b : List ℕ) → take n (take n a ++ b) ≡ take n (a ++ b)
+cut_twice n a b = go (leb (length a) n) refl
+  where
+    go : (t : Bool) → leb (length a) n ≡ t → take n (take n a ++ b) ≡ take n (a ++ b)
+    go true e = ap (λ (x : List ℕ). take n (x ++ b)) (take_all n a (leb-true (length a) n e))
+    go false e =
+        let h = leb-false (length a) n e in
+        let m : length (take n a) ≡ n = length-take n a ∙ omega arith in
+        take-append-le n (take n a) b (omega arith) ∙ take_all n (take n a) (omega arith) ∙ sym (take-append-le n a b (omega arith))
 
--- what found room stands behind the front, and what did not has changed nothing
-module _ {n : ℕ} {bytes bytes' l bs : List ℕ} {at : ℕ} {p : Option ℕ} (s : length bytes ≡ n) (h : at ≤ n) (e : take at bytes ≡ l) (w : Wrote true bytes at bs bytes' p) where
-  long : length l ≡ at
-  long = ap length (sym e) ∙ length-take-le at bytes (omega arith)
+-- one after the other
+pub adds_then : {n : ℕ} {a b c x y : List ℕ} → Adds n a x b → Adds n b y c → Adds n a (x ++ y) c
+adds_then {n} {a} {b} {c} {x} {y} p q =
+    record { is = q.is ∙ ap (λ (z : List ℕ). take n (z ++ y)) p.is ∙ cut_twice n (a ++ x) y ∙ ap (take n) (append_assoc a x y) }
 
-  same_test : fits bytes at (length bs) ≡ leb (length l + length bs) n
-  unfolding fits
-  same_test = rw (s, long)
+-- the same text under another name
+pub adds_as : {n : ℕ} {a b x y : List ℕ} → Adds n a x b → x ≡ y → Adds n a y b
+adds_as {n} {a} {b} p e = rw e at p
 
-  pub grown : {end : ℕ} → p ≡ Some end → take end bytes' ≡ added n l bs
-  unfolding added
-  grown {end} q = go (leb (length l + length bs) n) same_test
-    where
-      go : (b : Bool) → fits bytes at (length bs) ≡ b → take end bytes' ≡ pick b (l ++ bs) l
-      go true f =
-          let a : Some (at + length bs) ≡ Some end = rw f at (sym w.answer ∙ q) in
-          let z : at + length bs ≡ end = cc in
-          let y : bytes' ≡ over bytes at bs = rw f at w.list in
-          rw (← z, y) (written_front bytes bs at (omega arith) ∙ ap (λ (x : List ℕ). x ++ bs) e)
-      go false f = let a : None ≡ Some end = rw f at (sym w.answer ∙ q) in never (cc)
+-- what was empty holds the text, cut
+pub adds_first : {n : ℕ} {z x d : List ℕ} → z ≡ [] → Adds n z x d → d ≡ take n x
+adds_first {n} {z} {x} e p = p.is ∙ ap (λ (y : List ℕ). take n (y ++ x)) e
 
-  pub stayed : p ≡ None → take at bytes' ≡ added n l bs
-  unfolding added
-  stayed q = go (leb (length l + length bs) n) same_test
-    where
-      go : (b : Bool) → fits bytes at (length bs) ≡ b → take at bytes' ≡ pick b (l ++ bs) l
-      go true f = let a : Some (at + length bs) ≡ None = rw f at (sym w.answer ∙ q) in never (cc)
-      go false f = let y : bytes' ≡ bytes = rw f at w.list in rw y e
+-- a text that fits stands whole
+pub adds_all : {n : ℕ} {z x d : List ℕ} → z ≡ [] → Adds n z x d → length x ≤ n → d ≡ x
+adds_all {n} {z} {x} e p h = adds_first e p ∙ take_all n x h
 
--- what finds room is added
-pub adds : {n : ℕ} (k : ℕ) {l bs l' : List ℕ} → l' ≡ added n l bs → length bs ≤ k → length l + length bs ≤ n → Adds k l bs l'
-unfolding added
-adds {n} k {l} {bs} e m h =
-    let q = e ∙ rw (le-leb (length l + length bs) n h) in
-    record { is = q; most = m; size = ap length q ∙ length-append l bs }
+-- and is what is written
+pub draft_wrote : {n : ℕ} {z x d l l' : List ℕ} {at : ℕ} {r : Option ℕ} → z ≡ [] → Adds n z x d → length x ≤ n → Wrote true l at d l' r → Wrote true l at x l' r
+draft_wrote e p h w = rw (adds_all e p h) at w
 
-pub adds_none : (k : ℕ) (l : List ℕ) → Adds k l [] l
-adds_none k l = record { is = sym (append-nil l); most = omega arith; size = omega arith }
+-- the bytes of a push
+pub pushed : (n : ℕ) (b : List ℕ) (k : ℕ) (s : List ℕ) {old part l' : List ℕ} {r : Option ℕ} → length b ≡ n → k ≤ n → take k b ≡ old → part ≡ take (n - k) s
+    → Wrote true b k part l' r → Adds n old s (take (k + length part) l')
+pushed n b k s {old} {part} {l'} z h v p w =
+    let m : k + length part ≤ n = omega (arith, ap length p, length-take (n - k) s) in
+    let i : length (take k b) ≡ k = length-take k b ∙ omega arith in
+    let j : length (take k b ++ part) ≡ k + length part = length-append (take k b) part ∙ omega arith in
+    let e : l' ≡ over b k part = kept w (omega arith) in
+    let f : take (k + length part) l' ≡ take k b ++ part
+    = ap (take (k + length part)) e ∙ ap (λ (i : ℕ). take i ((take k b ++ part) ++ drop (k + length part) b)) (sym j) ∙ take-append_seam (take k b ++ part) (drop (k + length part) b) in
+    let q : length (take k b) + (n - k) ≡ n = omega arith in
+    let g : take n (take k b ++ s) ≡ take k b ++ part
+    = ap (λ (i : ℕ). take i (take k b ++ s)) (sym q) ∙ take-append-add (take k b) s (n - k) ∙ ap (λ (x : List ℕ). take k b ++ x) (sym p) in
+    rw (← v) record { is = f ∙ sym g }
 
--- one after the other, and the same under another name with a wider bound
-pub adds_then : {j k : ℕ} {l xs m ys l' : List ℕ} → Adds j l xs m → Adds k m ys l' → Adds (j + k) l (xs ++ ys) l'
-adds_then {j} {k} {l} {xs} {m} {ys} a b =
-    let x = a.most in
-    let y = b.most in
-    let u = a.size in
-    let v = b.size in
-    record {
-      is = b.is ∙ ap (λ (z : List ℕ). z ++ ys) a.is ∙ append_assoc l xs ys;
-      most = rw (length-append xs ys) (omega arith);
-      size = rw (length-append xs ys) (omega arith);
-    }
+-- a row: with the numbers that are left, what stands comes to the whole
+pub record Rowing (n : ℕ) (name vs d : List ℕ) (i : ℕ) : Type 0 where
+  pub left : take n (d ++ numbers_of (drop i vs)) ≡ take n (name ++ numbers_of vs)
 
-pub adds_as : {j k : ℕ} {l xs ys l' : List ℕ} → Adds j l xs l' → xs ≡ ys → j ≤ k → Adds k l ys l'
-adds_as {j} {k} {l} {xs} {ys} {l'} a e h =
-    let b : Adds j l ys l' = rw e at a in
-    let m = b.most in
-    record { is = b.is; most = omega arith; size = b.size }
+pub rowing_first : {n : ℕ} {name vs z d : List ℕ} → z ≡ [] → Adds n z name d → Rowing n name vs d 0
+rowing_first {n} {name} {vs} {z} {d} e p =
+    record { left = ap (λ (x : List ℕ). take n (x ++ numbers_of vs)) (adds_first e p) ∙ cut_twice n name (numbers_of vs) }
 
--- a line that was empty has no more
-pub adds_all : {k : ℕ} {l bs l' : List ℕ} → Adds k l bs l' → l ≡ [] → l' ≡ bs
-adds_all {bs = bs} a e = a.is ∙ ap (λ (x : List ℕ). x ++ bs) e
+pub rowing_more : {n : ℕ} {name vs d d' : List ℕ} {i v : ℕ} → Rowing n name vs d i → i < length vs → v ≡ get_or vs i 0 → Adds n d (field_text v) d'
+    → Rowing n name vs d' (i + 1)
+rowing_more {n} {name} {vs} {d} {d'} {i} {v} g h e p =
+    let rest : List ℕ = numbers_of (drop (suc i) vs) in
+    let t : numbers_of (drop i vs) ≡ field_text v ++ rest = rw (drop-cons vs i 0 h, ← e) refl in
+    let c : take n (d' ++ rest) ≡ take n (d ++ numbers_of (drop i vs))
+    = ap (λ (x : List ℕ). take n (x ++ rest)) p.is ∙ cut_twice n (d ++ field_text v) rest ∙ ap (take n) (append_assoc d (field_text v) rest)
+    ∙ ap (λ (x : List ℕ). take n (d ++ x)) (sym t) in
+    rw (add-one i) record { left = c ∙ g.left }
 
--- the first of the numbers that are left
-pub numbered_next : (n : ℕ) (l m m' vs : List ℕ) (i v : ℕ) → i < length vs → v ≡ get_or vs i 0 → m ≡ added n l (32 ∷ [])
-    → m' ≡ added n m (decimal_of v) → numbered n m' (drop (i + 1) vs) ≡ numbered n l (drop i vs)
-numbered_next n l m m' vs i v h e f g = rw (drop-cons vs i 0 h, add-one, ← e, g, f)
-
-pub numbered_end : (n : ℕ) (l vs : List ℕ) (i : ℕ) → length vs ≤ i → numbered n l (drop i vs) ≡ l
-numbered_end n l vs i h = rw (drop_of_length-le vs h)
+pub rowing_end : {n : ℕ} {name vs d d' : List ℕ} {i : ℕ} → Rowing n name vs d i → length vs ≤ i → Adds n d (10 ∷ []) d' → d' ≡ take n (row_of name vs)
+unfolding row_of
+rowing_end {n} {name} {vs} {d} {d'} {i} g h p =
+    let f : take n d ≡ take n (name ++ numbers_of vs)
+    = ap (take n) (sym (append-nil d)) ∙ ap (λ (x : List ℕ). take n (d ++ numbers_of x)) (sym (drop_of_length-le vs h)) ∙ g.left in
+    p.is ∙ sym (cut_twice n d (10 ∷ [])) ∙ ap (λ (x : List ℕ). take n (x ++ (10 ∷ []))) f ∙ cut_twice n (name ++ numbers_of vs) (10 ∷ [])
 
 -- a number has at most 20 digits
-pub numbers_add : {n : ℕ} (k : ℕ) (l vs : List ℕ) → length vs ≤ k → length l + 21 * k ≤ n → Adds (21 * k) l (numbers_of vs) (numbered n l vs)
-numbers_add k l [] m h = adds_none (21 * k) l
-numbers_add zero l (v ∷ vs) m h = absurd (omega arith)
-numbers_add {n} (suc k) l (v ∷ vs) m h =
-    let d = decimal_length v in
-    let a : Adds 1 l (32 ∷ []) (added n l (32 ∷ [])) = adds 1 refl (omega arith) (omega arith) in
-    let x = a.size in
-    let b : Adds 20 (added n l (32 ∷ [])) (decimal_of v) (added n (added n l (32 ∷ [])) (decimal_of v)) = adds 20 refl d (omega arith) in
-    let y = b.size in
-    adds_as (adds_then (adds_then a b) (numbers_add k (added n (added n l (32 ∷ [])) (decimal_of v)) vs (omega arith) (omega arith))) refl (omega arith)
+pub field_length : (v : ℕ) → length (field_text v) ≤ 21
+unfolding field_text
+field_length v = omega (arith, decimal_length v)
 
-pub row_add : {n : ℕ} (j k : ℕ) (name vs : List ℕ) → length name ≤ j → length vs ≤ k → j + 21 * k + 1 ≤ n
-    → Adds (j + 21 * k + 1) [] (row_of name vs) (rowed n name vs)
-unfolding rowed row_of
-row_add {n} j k name vs p q h =
-    let a : Adds j [] name (added n [] name) = adds j refl p (omega arith) in
-    let x = a.size in
-    let b : Adds (21 * k) (added n [] name) (numbers_of vs) (numbered n (added n [] name) vs) = numbers_add k (added n [] name) vs q (omega arith) in
-    let y = b.size in
-    let z = b.most in
-    let c : Adds 1 (numbered n (added n [] name) vs) (10 ∷ []) (rowed n name vs) = adds 1 refl (omega arith) (omega arith) in
-    adds_as (adds_then (adds_then a b) c) refl (omega arith)
-
-pub row_is : {n : ℕ} (j k : ℕ) (name vs : List ℕ) → length name ≤ j → length vs ≤ k → j + 21 * k + 1 ≤ n → rowed n name vs ≡ row_of name vs
-row_is j k name vs p q h = (row_add j k name vs p q h).is
+numbers_most : (vs : List ℕ) → length (numbers_of vs) ≤ 21 * length vs
+numbers_most [] = omega arith
+numbers_most (v ∷ vs) =
+    let r = numbers_most vs in
+    simp length-append (omega (arith, field_length v))
 
 pub row_most : (j k : ℕ) (name vs : List ℕ) → length name ≤ j → length vs ≤ k → length (row_of name vs) ≤ j + 21 * k + 1
-row_most j k name vs p q = (row_add {n = j + 21 * k + 1} j k name vs p q (omega arith)).most
+unfolding row_of
+row_most j k name vs p q = simp length-append (omega (arith, numbers_most vs))
 
--- a row that is written
-pub row_put : {n : ℕ} (j k : ℕ) (name vs : List ℕ) {d l l' : List ℕ} {at : ℕ} {r : Option ℕ} → d ≡ rowed n name vs → Wrote true l at d l' r
+-- a row that fits stands whole
+pub row_is : {n : ℕ} (j k : ℕ) (name vs : List ℕ) {d : List ℕ} → d ≡ take n (row_of name vs) → length name ≤ j → length vs ≤ k → j + 21 * k + 1 ≤ n
+    → d ≡ row_of name vs
+row_is {n} j k name vs e p q h = e ∙ take_all n (row_of name vs) (omega (arith, row_most j k name vs p q))
+
+-- and is what is written
+pub row_put : {n : ℕ} (j k : ℕ) (name vs : List ℕ) {d l l' : List ℕ} {at : ℕ} {r : Option ℕ} → d ≡ take n (row_of name vs) → Wrote true l at d l' r
     → length name ≤ j → length vs ≤ k → j + 21 * k + 1 ≤ n → Wrote true l at (row_of name vs) l' r
-row_put j k name vs e w p q h = rw (e ∙ row_is j k name vs p q h) at w
+row_put j k name vs e w p q h = rw (row_is j k name vs e p q h) at w

@@ -15,7 +15,7 @@ use Rattle.text.proofs.digit.written.Reads as written
 use Rattle.text.proofs.draft.Draft.new.Reads as new
 use Rattle.text.proofs.draft.Draft.push.Reads as push
 use Rattle.text.proofs.draft.Draft.decimal.Reads as added
-use Rattle.text.proofs.draft.Draft.numbers.Reads as numbers
+use Rattle.text.proofs.draft.Draft.field.Reads as field
 use Rattle.text.proofs.draft.Draft.row.Reads as row
 use Rattle.text.proofs.draft.Draft.as_slice.Reads as as_slice
 use Rattle.text.proofs.draft.Draft.put.Reads as put
@@ -64,13 +64,13 @@ module _ (n : _) (fits : _) where
   row_unique κs a r r' x x' p q = p ∙ sym q
 
   pub push_unique : (κs : _) (a : _) (r r' : _) (x x' : _) → push.Post n fits κs a r x → push.Post n fits κs a r' x' → x.0.now ≡ x'.0.now
-  push_unique κs a r r' x x' p q = p ∙ sym q
+  push_unique κs a r r' x x' p q = p.is ∙ sym q.is
 
   pub added_unique : (κs : _) (a : _) (r r' : _) (x x' : _) → added.Post n fits κs a r x → added.Post n fits κs a r' x' → x.0.now ≡ x'.0.now
-  added_unique κs a r r' x x' p q = p ∙ sym q
+  added_unique κs a r r' x x' p q = p.is ∙ sym q.is
 
-  pub numbers_unique : (κs : _) (a : _) (r r' : _) (x x' : _) → numbers.Post n fits κs a r x → numbers.Post n fits κs a r' x' → x.0.now ≡ x'.0.now
-  numbers_unique κs a r r' x x' p q = p ∙ sym q
+  pub field_unique : (κs : _) (a : _) (r r' : _) (x x' : _) → field.Post n fits κs a r x → field.Post n fits κs a r' x' → x.0.now ≡ x'.0.now
+  field_unique κs a r r' x x' p q = p.is ∙ sym q.is
 
   pub as_slice_unique : (κs : _) (a : _) (r r' : _) (x x' : _) → as_slice.Post n fits κs a r x → as_slice.Post n fits κs a r' x' → r.now ≡ r'.now
   as_slice_unique κs a r r' x x' p q = p ∙ sym q

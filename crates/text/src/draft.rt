@@ -1,12 +1,13 @@
-// A line while it is put together, in fixed memory.
-ghost use Rattle.std.specs.Prelude.{◌≡◌, [], true};
+// A short text that is put together, in fixed memory, before it is written, so that an output without room for the
+// whole of it is left as it was.
+ghost use Rattle.std.specs.Prelude.{◌≡◌, [], take, true};
 ghost use Rattle.codec.specs.Number.{Wrote};
 ghost use Rattle.text.specs.Put.{decimal_of};
-ghost use Rattle.text.specs.Draft.{added, numbered, rowed};
+ghost use Rattle.text.specs.Draft.{Adds, field_text, row_of};
 
 use std::marker::Model;
 
-// At most N bytes. What finds no room is left out whole.
+// At most N bytes. What does not fit is cut off.
 #[derive(Drop)]
 pub struct Draft<const N: usize> {
     bytes: [u8; N],
@@ -34,39 +35,38 @@ impl<const N: usize> Draft<N> {
     }
 
     pub fn push(&mut self, s: &[u8])
-        ensures { self.new ≡ added N self.old s.now }
+        ensures { Adds N self.old s.now self.new }
     {
-        if let Some(end) = codec::number::put_bytes(&mut self.bytes, self.len, s) {
-            self.len = end;
-        }
+        let part = crate::part::front(s, N - self.len);
+        codec::number::put_bytes(&mut self.bytes, self.len, part);
+        self.len += part.len();
     }
 
     pub fn decimal(&mut self, v: u64)
-        ensures { self.new ≡ added N self.old (decimal_of v) }
+        ensures { Adds N self.old (decimal_of v) self.new }
     {
-        if let Some(end) = crate::put::decimal(&mut self.bytes, self.len, v) {
-            self.len = end;
-        }
+        let mut digits = [0u8; 20];
+        let start = crate::put::spell(&mut digits, v);
+        self.push(&digits[start..])
     }
 
-    // Numbers, each behind a space.
-    pub fn numbers(&mut self, vs: &[u64])
-        ensures { self.new ≡ numbered N self.old vs.now }
+    // A number behind a space.
+    pub fn field(&mut self, v: u64)
+        ensures { Adds N self.old (field_text v) self.new }
     {
-        for &v in vs {
-            self.push(b" ");
-            self.decimal(v);
-        }
+        self.push(b" ");
+        self.decimal(v)
     }
 
-    // A line of a name and numbers.
-    #[tactic(auto, unfolding(crate::specs::Draft::rowed))]
+    // A line of a name and numbers, each behind a space.
     pub fn row(name: &[u8], vs: &[u64]) -> Self
-        ensures { result ≡ rowed N name.now vs.now }
+        ensures { result ≡ take N (row_of name.now vs.now) }
     {
         let mut line = Self::new();
         line.push(name);
-        line.numbers(vs);
+        for &v in vs {
+            line.field(v);
+        }
         line.push(b"\n");
         line
     }

@@ -29,7 +29,7 @@ pub fn hex(out: &mut [u8], at: usize, src: &[u8]) -> Option<usize>
 }
 
 // The decimal digits of v at the end of text, from the last to the first; answers where they start.
-fn spell(text: &mut [u8], v: u64) -> usize
+pub(crate) fn spell(text: &mut [u8], v: u64) -> usize
     requires { length text.old ≡ 20 }
     ensures { Ends text.new (decimal_of v) result }
 {

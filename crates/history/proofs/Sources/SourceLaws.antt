@@ -123,7 +123,7 @@ pub added_account : (s : Source) (f : Filter) → account_of (added_filter s f) 
 unfolding account_of added_filter
 added_account s f = go (ltb (free_at s.places) 8)
   where
-    go : (b : Bool) → account_of (pick b (with_places s (set s.places (free_at s.places) (record { filter = f }))) s) ≡ account_of s
+    go : (b : Bool) → account_of (pick b (with_places s (set s.places (free_at s.places) f)) s) ≡ account_of s
     go true = refl
     go false = refl
 
