@@ -250,7 +250,8 @@ pub fn read_item(s: &[u8], at: usize) -> Result<Decoded, Refusal>
     })
 }
 
-// The n bytes of s from index start, as that very part of s; nothing where they are not all there.
+// The n bytes of s from index start, as that very part of s; empty where they are not all there, and no Option: a payload that is
+// there may be empty, and whoever reads one has the item's answer beside it.
 #[tactic(auto, using(crate::proofs::NumberLaws::miss, crate::proofs::NumberLaws::hit), unfolding(crate::specs::Field::bytes_at))]
 pub fn part_at(s: &[u8], start: usize, n: usize) -> &[u8]
     ensures { result.now ≡ bytes_at s.now start n }

@@ -51,6 +51,7 @@ impl TryFrom<u8> for Kind {
     }
 }
 
+// A question about an id, and no conversion of it.
 pub fn kind_of(id: Ident) -> Kind
     ensures { result ≡ kind_of id }
 {

@@ -35,6 +35,7 @@ fn set_of(state: Option<u8>, ident: Ident, carries: bool) -> u8
     u8::from(state.is_some()) << 2 | ident_bit(ident) << 1 | u8::from(carries)
 }
 
+// Id and payload, all three, state and id, state alone. The set stays a number: it is three bits of a byte of the wire.
 pub fn set_ok(set: u8) -> bool
     ensures { result ≡ set_ok set }
 {
@@ -127,6 +128,8 @@ fn flags_of(item: Item) -> u8
     set << 5 | u8::from(crate::ident::kind_of(item.ident))
 }
 
+// Each part asks for its own room, and `write_item` for all of it once; slice and index stay apart, as in number.rt. Two bytes
+// of an offset are stored directly, because every item has them.
 fn lay_front(out: &mut [u8], at: usize, offset: u16, flags: u8, network: u8) -> usize
     requires { at + 4 ≤ length out.old }
     ensures { Laid out.old at (be 2 offset ++ flags ∷ network ∷ []) out.new result }

@@ -3,13 +3,15 @@
 ghost use Rattle.std.specs.Prelude.{◌≡◌, true, ◌+◌, ◌≤◌, ◌<◌, ◌%◌, ◌^◌, length, IfSome, MatchOption};
 ghost use Rattle.codec.specs.Number.{Wrote, Word, be, val, word_at, get_of, part_of};
 
+// A narrower number by its mask: `as` cuts nothing off.
 pub fn low8(x: u64) -> u8
     ensures { result ≡ x % 256 }
 {
     (x & 255) as u8
 }
 
-// The n low bytes of v, from the last to the first: one function for every width.
+// The n low bytes of v, from the last to the first: one function for every width. They are written by index, since after
+// `iter_mut` a proof knows the length of a slice and nothing else of it.
 #[tactic(auto, using(crate::proofs::NumberLaws::down_first, crate::proofs::NumberLaws::down, crate::proofs::NumberLaws::down_last))]
 pub fn put_be(out: &mut [u8], at: usize, v: u64, n: usize) -> Option<usize>
     ensures { Wrote true out.old at (be n v) out.new result }

@@ -37,14 +37,13 @@ pub fn ticks_of_nanos(n: Nanos) -> Elapsed
     ensures { result ≡ ticks_of n.0 }
 {
     let t = n.0 / 10000;
-    if t <= 65535 {
-        Elapsed::Ticks(Ticks(t as u16))
-    } else {
-        Elapsed::TooFar
+    match u16::try_from(t) {
+        Ok(t) => Elapsed::Ticks(Ticks(t)),
+        Err(_) => Elapsed::TooFar,
     }
 }
 
-// The conversions keep a name each, and no two kinds share one (docs/DECISIONS.md, "Forms that are asked for"), so they are no From.
+// The conversions keep a name each (docs/DECISIONS.md, "Forms that are asked for"), so they are no From.
 pub fn nanos_of_ticks(t: Ticks) -> Nanos
     ensures { Below (t.0 * 10000) 655350001 result.0 }
 {

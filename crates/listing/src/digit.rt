@@ -5,7 +5,8 @@ ghost use Rattle.listing.specs.Line.{fixed_of, spread};
 
 use text::digit::{Case, written};
 
-// The low digits of v, from the last to the first: one function for every base and width.
+// The low digits of v, from the last to the first: one function for every base and width. Written by index, since after
+// `iter_mut` a proof knows the length of a slice and nothing else of it.
 pub(crate) fn fixed<const BASE: u64, const WIDTH: usize>(v: u64) -> [u8; WIDTH]
     requires some { 1 ≤ BASE }
     requires most { BASE ≤ 16 }

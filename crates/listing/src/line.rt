@@ -46,6 +46,7 @@ pub fn skipped(out: &mut [u8], at: usize, tag: u8, length: u16) -> Option<usize>
     Line::row(b"skipped", &[tag as u64, length as u64]).put(out, at)
 }
 
+// Any number here too.
 pub fn end(out: &mut [u8], at: usize, answer: u8, skipped: u32) -> Option<usize>
     ensures { Wrote true out.old at (end_line answer skipped) out.new result }
 {

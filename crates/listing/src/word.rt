@@ -10,7 +10,8 @@ use codec::time::Time;
 use tape::TooFar;
 use text::draft::Draft;
 
-// Room for any line: what stands before an item's bytes is at most 156 bytes (proofs/RoomLaws.antt), another line less.
+// Room for any line, the 256 of the clauses: what stands before an item's bytes is at most 156 bytes (proofs/RoomLaws.antt),
+// another line less.
 pub(crate) type Line = Draft<256>;
 
 // What is not there.

@@ -21,7 +21,8 @@ pub fn next(place: Place, buffer: &mut [u8; 1472], hold: &mut [u8; 65538], piece
     step
 }
 
-// What the copy has of a field that is complete: all of its bytes as they are held, or none where it is bad.
+// What the copy has of a field that is complete: all of its bytes as they are held, or none where it is bad. No Option, since the
+// copy is these parts one after the other.
 #[tactic(auto, unfolding(crate::specs::Calls::kept_in))]
 pub fn kept(field: Field, hold: &[u8]) -> &[u8]
     ensures { result.now ≡ kept_in field hold.now }

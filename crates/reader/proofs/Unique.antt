@@ -4,6 +4,8 @@ use Prim.Native.Nat.{ℕ}
 use denote.RattleType.{RattleType}
 use Rattle.std.specs.declared.convert.Into.{Ghosts}
 use Rattle.std.specs.Prelude.{Result, Ok, Err, MatchResult}
+use mathlib.Core.List.{List}
+use Rattle.reader.specs.Items.{Gives}
 use Rattle.reader.proofs.answer.number.Reads as answer
 use Rattle.reader.proofs.frame.judge.Reads as judge
 use Rattle.reader.proofs.place.step.Reads as step
@@ -13,6 +15,7 @@ use Rattle.reader.proofs.place.payload_at.Reads as payload-at
 use Rattle.reader.proofs.copy.rewrite.Reads as rewrite
 use Rattle.reader.proofs.copy.U8FromRewriteError.from.Reads as number
 use Rattle.reader.proofs.copy.RewriteErrorFromRefusal.from.Reads as refused
+use Rattle.reader.proofs.items.Items.of.Reads as items
 
 pub judge_unique : (κs : _) (a : _) (r r' : _) (x x' : _) → judge.Post κs a r x → judge.Post κs a r' x' → r ≡ r'
 judge_unique κs a r r' x x' p q = p ∙ sym q
@@ -37,6 +40,13 @@ number_unique κs a r r' x x' p q = p ∙ sym q
 
 pub refused_unique : (κs : _) (a : _) (r r' : _) (x x' : _) → refused.Post κs a r x → refused.Post κs a r' x' → r ≡ r'
 refused_unique κs a r r' x x' p q = p ∙ sym q
+
+pub items_unique : (κs : _) (a : _) (r r' : _) (x x' : _) → items.Post κs a r x → items.Post κs a r' x' → (r.frame.now ≡ r'.frame.now) × (r.place ≡ r'.place)
+items_unique κs a r r' x x' p q = (p.0 ∙ sym q.0, p.1 ∙ sym q.1)
+
+-- of one call of `next`: what it gave, and the place that it left
+pub gives_unique : (s : List ℕ) (at : ℕ) {r r' : _} {to to' : ℕ} → Gives s at r to → Gives s at r' to' → (r ≡ r') × (to ≡ to')
+gives_unique s at p q = (p.given ∙ sym q.given, p.left ∙ sym q.left)
 
 -- of any error whose own number is one
 answer_one : {T E : Type 0} {converts : E → ℕ → Type 0} (r : Result T E) (m n : ℕ) → ((why : E) (m n : ℕ) → converts why m → converts why n → m ≡ n)

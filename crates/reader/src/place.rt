@@ -33,6 +33,7 @@ pub fn item_at(frame: &[u8], place: usize) -> Result<Option<Stepped>, Refusal>
     }))
 }
 
+// Empty where there is none, and no Option: an item's payload may be empty, and `item_at` says which it is.
 #[tactic(auto, unfolding(crate::specs::Frame::payload_at_of))]
 pub fn payload_at(frame: &[u8], place: usize) -> &[u8]
     ensures { result.now ≡ payload_at_of frame.now place }

@@ -16,7 +16,8 @@ pub enum Found {
     Skipped,
 }
 
-// The tag and the length of the body come with every finding, also with a refusal.
+// The tag and the length of the body come with every finding, also with a refusal. The tag is a number, since a skipped field may
+// have any.
 #[derive(Clone, Copy)]
 pub struct Field {
     pub tag: u8,

@@ -15,7 +15,7 @@ use codec::time::{Nanos, Time};
 use reader::Stepped;
 use text::draft::Draft;
 
-// Room for any answer but its bytes, which are written straight to the output.
+// Room for any answer but its bytes, which are written straight to the output: the 256 of the clauses.
 type Answer = Draft<256>;
 
 fn time(draft: &mut Answer, t: Time)
@@ -67,6 +67,7 @@ fn ident(draft: &mut Answer, id: Ident)
     }
 }
 
+// As a listing shows it; text, which both stand on, knows no items.
 fn load(draft: &mut Answer, carries: bool, n: usize)
     ensures { Adds 256 draft.old (load_text carries n) draft.new }
 {
@@ -98,7 +99,7 @@ fn item(draft: &mut Answer, it: Item, n: usize)
     load(draft, it.carries, n)
 }
 
-// What stands beside a refusal.
+// What stands beside a refusal in an answer line (docs/SCRIPT.md).
 const NO_HEADER: Header = Header {
     sequence: 0,
     time: Time { sec: 0, nano: 0 },
@@ -174,7 +175,7 @@ pub fn bad(out: &mut [u8], at: usize, line: u64) -> Option<usize>
     draft.put(out, at)
 }
 
-// The answer of most calls, by its number, since that is what is printed.
+// The answer of most calls, by its number, since that is what is printed; so in the functions below.
 pub fn done(out: &mut [u8], at: usize, answer: u8) -> Option<usize>
     ensures { Wrote true out.old at (decimal_of answer) out.new result }
 {

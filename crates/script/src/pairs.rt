@@ -4,7 +4,7 @@ ghost use Rattle.text.specs.Line.{split};
 ghost use Rattle.script.specs.Pairs.{Gathered};
 
 // How many numbers there are, and nothing where a word is none. Nine pairs are more than any setup takes, so what
-// comes after them is judged and not kept.
+// comes after them is judged and not kept: n counts those that are kept. No heap, so the array is lent.
 pub fn read(line: &[u8], out: &mut [u32; 18]) -> Option<usize>
     ensures { Gathered (drop 4 (split line.now)) out.old out.new result }
 {

@@ -18,7 +18,7 @@ pub fn is_note(line: &[u8]) -> bool
     line.starts_with(b"note ")
 }
 
-// What stands behind `note` and its space.
+// What stands behind `note` and its space; a question of its own, and no Option of both, since docs/PROOFS.md promises each.
 pub fn note_in(line: &[u8]) -> &[u8]
     ensures { result.now ≡ drop 5 line.now }
 {

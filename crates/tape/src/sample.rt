@@ -17,7 +17,7 @@ impl From<TooFar> for u8 {
     }
 }
 
-// A time as one count of nanoseconds, whatever its fields hold.
+// A time as one count of nanoseconds, whatever its fields hold: with a sign, since here the difference has one.
 fn nanos(t: Time) -> i128
     ensures { result ≡ pos (ns t) }
 {

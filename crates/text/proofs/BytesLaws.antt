@@ -47,9 +47,6 @@ pub record Laying (w l out : List ℕ) (i : ℕ) : Type 0 where
   pub size : length out ≡ length l
   pub left : sets l 0 (pairs w) ≡ sets out i (pairs (drop (2 * i) w))
 
-pub laying_first : (w l : List ℕ) → Laying w l l 0
-laying_first w l = record { most = omega arith; size = refl; left = refl }
-
 pub laying_more : {w l out : List ℕ} {i : ℕ} (a b : ℕ) → Laying w l out i → i < length w / 2 → a ≡ digit_of (get_or w (2 * i) 0) → b ≡ digit_of (get_or w (2 * i + 1) 0)
     → Laying w l (set out i (a * 16 + b)) (i + 1)
 laying_more {w} {l} {out} {i} a b g h ea eb =

@@ -82,9 +82,6 @@ pub record Reading (base most : ℕ) (s : List ℕ) (v i : ℕ) : Type 0 where
   pub below : v ≤ most
   pub left : rest_of base most 0 s ≡ rest_of base most v (drop i s)
 
-pub reading_first : (base most : ℕ) (s : List ℕ) → Reading base most s 0 0
-reading_first base most s = record { inside = omega arith; below = omega arith; left = refl }
-
 some : (base most : ℕ) (s : List ℕ) → 0 < length s → digits_of base most s ≡ rest_of base most 0 s
 unfolding digits_of
 some base most s h = rw (ne_eqb (length s) 0 (λ z. omega arith))

@@ -3,16 +3,15 @@ use Prim.Native.Nat.{ℕ, zero, suc, ◌+◌, ◌-◌, ◌*◌, ◌/◌, ◌%◌
 use mathlib.Core.Path.{◌≡◌, refl, sym, ◌∙◌, ap}
 use mathlib.Core.Bool.{Bool, true, false}
 use mathlib.Core.List.{List, [], ◌∷◌, ◌++◌, append_assoc, append-nil}
-use native.Mathlib.Numerals.{add-one, add-two}
 use native.Mathlib.Omega.{arith}
 use Rattle.codec.specs.Choice.{pick}
-use lib.ListN.{length, length-append, get_or, take, drop, set, length-set, length-drop, drop_of_length-le}
-use lib.Seq.{drop-cons, take_all, sets, sets-eq, drop-set-lt, get_or-set_same}
+use lib.ListN.{length, length-append, drop, set, length-set, drop_of_length-le}
+use lib.Seq.{drop-cons, sets, sets-eq, drop-set-lt, get_or-set_same}
 use lib.Dec.{ltb}
 use Rattle.codec.proofs.NumberLaws.{full, wrote}
 use borrow.Author.Tests.{lt-ltb, le-ltb}
 use Rattle.codec.specs.Number.{over, Wrote}
-use Rattle.text.specs.Put.{letter_of, hexes, hex_of, decimals, decimal_of, Ends}
+use Rattle.text.specs.Put.{hexes, hex_of, decimals, decimal_of, Ends}
 use Rattle.std.specs.Prelude.{Some, None}
 
 -- hex: the digits of the first i of src stand at index at, up to index k
@@ -21,17 +20,6 @@ pub record Hexing (l : List ℕ) (at : ℕ) (src out : List ℕ) (i k : ℕ) : T
   pub size : length out ≡ length l
   pub next : k ≡ at + 2 * i
   pub left : sets l at (hexes src) ≡ sets out k (hexes (drop i src))
-
-pub hexing_first : (l : List ℕ) (at : ℕ) (src : List ℕ) → Hexing l at src l 0 at
-hexing_first l at src = record { most = omega arith; size = refl; next = omega arith; left = refl }
-
-pub hexing_more : {l : List ℕ} {at : ℕ} {src out : List ℕ} {i k : ℕ} (x y : ℕ) → Hexing l at src out i k → i < length src
-    → x ≡ letter_of (get_or src i 0 / 16) → y ≡ letter_of (get_or src i 0 % 16) → Hexing l at src (set (set out k x) (k + 1) y) (i + 1) (k + 2)
-hexing_more {l} {at} {src} {out} {i} {k} x y g h ex ey =
-    let p : sets out k (hexes (drop i src)) ≡ sets (set (set out k x) (k + 1) y) (k + 2) (hexes (drop (i + 1) src))
-    = rw (drop-cons src i 0 h, add-one i, ← ex, ← ey, add-two k, add-one k) in
-    let n = g.next in
-    record { most = omega arith; size = simp length-set g.size; next = omega arith; left = g.left ∙ p }
 
 pub hexes-length : (bs : List ℕ) → length (hexes bs) ≡ 2 * length bs
 hexes-length [] = refl
@@ -45,10 +33,6 @@ hexing_end {l} {at} {src} {out} {i} {k} g h f =
 hex_some : (bs : List ℕ) → (length bs ≡ 0 → ⊥) → hex_of bs ≡ hexes bs
 hex_some [] h = absurd (h refl)
 hex_some (b ∷ bs) h = refl
-
-pub hex_none : (bs : List ℕ) → length bs ≡ 0 → hex_of bs ≡ 45 ∷ []
-hex_none [] e = refl
-hex_none (b ∷ bs) e = absurd (omega arith)
 
 pub hex_full : {l : List ℕ} {at : ℕ} (bs : List ℕ) → (length bs ≡ 0 → ⊥) → length l < at + 2 * length bs → Wrote true l at (hex_of bs) l None
 hex_full {l} {at} bs p h = rw (hex_some bs p) (full (omega (arith, hexes-length bs)))
@@ -106,9 +90,6 @@ unfolding decimals
 spelling_end {v} {text} {x} {i} s h =
     let q : i ≡ 0 = omega arith in
     record { tail = sym (s.left ∙ ap (λ (k : ℕ). decimals k x ++ drop k text) q); most = omega arith }
-
-pub ends_part : {l bs : List ℕ} {r : ℕ} → Ends l bs r → length l ≡ 20 → take (20 - r) (drop r l) ≡ bs
-ends_part {l} {bs} {r} e n = take_all (20 - r) (drop r l) (omega (arith, length-drop r l)) ∙ e.tail
 
 -- a number has as many digits as it was given places, at most
 pub decimals-length : (n v : ℕ) → length (decimals n v) ≤ n

@@ -2,16 +2,14 @@
 use Prim.Native.Nat.{ℕ, ◌+◌, ◌≤◌}
 use mathlib.Core.Path.{◌≡◌, refl, sym, ◌∙◌, ap}
 use mathlib.Core.Bool.{true}
-use mathlib.Core.List.{List, [], ◌++◌}
+use mathlib.Core.List.{List, ◌++◌}
 use native.Mathlib.Omega.{arith}
-use Rattle.std.proofs.Common.{rules}
 use native.Mathlib.Nat.{zero-add}
 use lib.ListN.{length, take, drop, length-append}
 use lib.Seq.{take_at}
 use Rattle.codec.specs.Number.{over, Wrote}
-use Rattle.std.specs.Prelude.{Option, Some, None, IsSome}
-use Rattle.codec.proofs.NumberLaws.{hit, kept, chain, chain_put, from_laid, laid_none, length_over}
-use Rattle.codec.proofs.Opened.{never}
+use Rattle.std.specs.Prelude.{Option, Some}
+use Rattle.codec.proofs.NumberLaws.{hit, kept, chain, chain_put, from_laid, length_over}
 use Rattle.text.specs.Short.{Short}
 
 -- a write that had room
@@ -28,19 +26,6 @@ next_is w h = w.answer ∙ sym (hit _ _ _ _ _ h refl)
 module _ {l : List ℕ} {at : ℕ} {bs l' : List ℕ} {p : Option ℕ} (k : ℕ) (w : Wrote true l at bs l' p) (m : length bs ≤ k) (h : at + k ≤ length l) where
   room : at + length bs ≤ length l
   room = omega arith
-
-  pub put_next : {n : ℕ} → p ≡ Some n → Short k l at bs l' n
-  put_next {n} e =
-      let q : Some (at + length bs) ≡ Some n = sym (next_is w room) ∙ e in
-      let z : at + length bs ≡ n = cc in
-      rw (← z) (short_put k w room m)
-
-  -- so the write may be unwrapped
-  pub put_some : IsSome p
-  put_some = rw (next_is w room) (search rules)
-
-  pub put_nothing : {G : Type 0} → p ≡ None → G
-  put_nothing e = let q : Some (at + length bs) ≡ None = sym (next_is w room) ∙ e in never (cc)
 
 -- one after the other
 pub short_then : {j n : ℕ} {l : List ℕ} {at : ℕ} {xs ys m l' : List ℕ} {k r : ℕ} → Short j l at xs m k → Short n m k ys l' r → Short (j + n) l at (xs ++ ys) l' r
@@ -64,10 +49,6 @@ short_as {j} {k} {l} {at} {bs} {cs} {l'} {r} a e h =
     let m = b.most in
     record { laid = b.laid; most = omega arith; fits = b.fits; kept = b.kept }
 
--- no text
-pub short_none : (l : List ℕ) (at k : ℕ) → at ≤ length l → Short k l at [] l at
-short_none l at k h = record { laid = laid_none refl; most = omega arith; fits = omega arith; kept = refl }
-
 -- what was laid is written
 pub short_wrote : {k : ℕ} {l : List ℕ} {at : ℕ} {bs l' : List ℕ} {r : ℕ} → Short k l at bs l' r → Wrote true l at bs l' (Some r)
 short_wrote a = from_laid refl a.fits a.laid
@@ -77,9 +58,6 @@ pub front_is : {k : ℕ} {l bs l' : List ℕ} {n : ℕ} → Short k l 0 bs l' n 
 front_is {k} {l} {bs} {l'} {n} a =
     let e : n ≡ length bs = a.laid.next ∙ zero-add (length bs) in
     rw (a.laid.list, e) (take_at bs (drop (0 + length bs) l) (length bs) refl)
-
-pub front_length : {k : ℕ} {l bs l' : List ℕ} {n : ℕ} → Short k l 0 bs l' n → n ≡ length (take n l')
-front_length {k} {l} {bs} {l'} {n} a = a.laid.next ∙ zero-add (length bs) ∙ sym (ap length (front_is a))
 
 pub short_is : {k : ℕ} {l : List ℕ} {at : ℕ} {bs cs l' : List ℕ} {r : ℕ} → Short k l at bs l' r → bs ≡ cs → Short k l at cs l' r
 short_is a e = rw e at a

@@ -12,6 +12,7 @@ fn all_hex(s: &[u8]) -> bool
     s.iter().all(|c| c.is_ascii_hexdigit())
 }
 
+// Read and written by index, since after `iter_mut` a proof knows the length of a slice and nothing else of it.
 fn lay(word: &[u8], out: &mut [u8])
     requires word_value { all_below 16 word.now ≡ true }
     requires word_len_bound { length word.now ≤ 2 * length out.old }

@@ -17,7 +17,7 @@ pub enum Case {
     Upper,
 }
 
-// The low half of a byte as a hexadecimal digit.
+// The low half of a byte as a hexadecimal digit. The library reads digits (`to_digit`) and writes none.
 #[tactic(auto, unfolding(crate::specs::Put::letter_of, crate::specs::Put::capital_of))]
 pub fn written(b: u8, case: Case) -> u8
     ensures { result ≡ written_of case (b % 16) }

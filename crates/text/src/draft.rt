@@ -1,5 +1,6 @@
 // A short text that is put together, in fixed memory, before it is written, so that an output without room for the
-// whole of it is left as it was.
+// whole of it is left as it was. No `Display` stands behind it: the library's `write!` says nothing of what stands in the output
+// after an `Err`.
 ghost use Rattle.std.specs.Prelude.{◌≡◌, [], take, true};
 ghost use Rattle.codec.specs.Number.{Wrote};
 ghost use Rattle.text.specs.Put.{decimal_of};

@@ -32,7 +32,7 @@ pub fn words(s: &[u8]) -> usize
     s.split(|c| *c == b' ').count()
 }
 
-// The word of number k from 0, and nothing past the last.
+// The word of number k from 0, and past the last the empty word, which no number and no call is.
 pub fn word(s: &[u8], k: usize) -> &[u8]
     ensures { result.now ≡ word_of s.now k }
 {

@@ -5,6 +5,8 @@ ghost use Rattle.text.specs.Put.{hexes, hex_of, decimal_of, Ends};
 
 use crate::digit::{Case, written};
 
+// Written by index, since after `iter_mut` a proof knows the length of a slice and nothing else of it. listing writes upper case
+// by a loop of its own, whose laws it shares with its notes.
 fn lay_hex(out: &mut [u8], at: usize, src: &[u8])
     requires { at + 2 * length src.now ≤ length out.old }
     ensures { out.new ≡ over out.old at (hexes src.now) }
@@ -28,7 +30,8 @@ pub fn hex(out: &mut [u8], at: usize, src: &[u8]) -> Option<usize>
     Some(next)
 }
 
-// The decimal digits of v at the end of text, from the last to the first; answers where they start.
+// The decimal digits of v at the end of text, from the last to the first; answers where they start. Written by index, as the bytes
+// of `lay_hex`.
 pub(crate) fn spell(text: &mut [u8], v: u64) -> usize
     requires { length text.old ≡ 20 }
     ensures { Ends text.new (decimal_of v) result }

@@ -11,9 +11,9 @@ use borrow.Author.Tests.{le-leb}
 use Rattle.codec.specs.Choice.{pick}
 use Rattle.codec.specs.declared.item.Item.{Item}
 use Rattle.reader.specs.Listing.{Yield, stepping}
-use Rattle.std.specs.Prelude.{Ok}
 use Rattle.mirror.specs.Engine.{discards_of, failures_of}
 use Rattle.mirror.specs.declared.engine.Engine.{Engine}
+use Rattle.mirror.specs.Call.{beside}
 use Rattle.history.specs.Account.{Account}
 use Rattle.history.specs.Ledger.{Limits, Line, Frame, Closed, Ledger, state_in, item_in, Note, is_empty, kept_in, discarded_in, discard_count, taken_in, waiting_in, failure_count, filling_in, lines_closed, lines_in, made_in, is_discard, is_failure, tally}
 use Rattle.history.specs.Ledger as Rules
@@ -95,12 +95,11 @@ module _ (c : Limits) (book : List Account) (ds : List Deed) (l : Ledger) (u : E
       (both_append Reads (frames_taken ds ++ frames_waiting u) (frames_filling u) (taken_in l ++ waiting_in l) (filling_in l)
       (both_append Reads (frames_taken ds) (frames_waiting u) (taken_in l) (waiting_in l) h.taken h.waiting) h.filling)
 
-  module _ (none : discards_of u ≡ Ok 0) (drained : frames_waiting u ≡ []) (flushed : frames_filling u ≡ []) where
+  module _ (none : beside (λ n. n) (discards_of u) ≡ 0) (drained : frames_waiting u ≡ []) (flushed : frames_filling u ≡ []) where
     none-discarded : discarded_in l.closed ≡ []
     unfolding discard_count
     none-discarded =
-        let o : Ok (discard_count l) ≡ Ok 0 = sym h.discards ∙ none in
-        let m : discard_count l ≡ 0 = cc in
+        let m : discard_count l ≡ 0 = rw h.discards at none in
         length_none (discarded_in l.closed) (omega arith)
 
     none-filling : l.filling.lines ≡ []
@@ -122,11 +121,10 @@ module _ (c : Limits) (book : List Account) (ds : List Deed) (l : Ledger) (u : E
     in-full = rw (← lines-taken) (yields_lines (frames_taken ds) (taken_in l) h.taken)
 
     -- and if none failed, each shows its event alone
-    pub lossless : failures_of u ≡ Ok 0 → Both ShowsEvent (yields_in (frames_taken ds)) (events_on book ds)
+    pub lossless : beside (λ n. n) (failures_of u) ≡ 0 → Both ShowsEvent (yields_in (frames_taken ds)) (events_on book ds)
     unfolding failure_count
     lossless unfailed =
-        let o : Ok (failure_count l) ≡ Ok 0 = sym h.failures ∙ unfailed in
-        let f : failure_count l ≡ 0 = cc in
+        let f : failure_count l ≡ 0 = rw h.failures at unfailed in
         let clear : All Unlost (made_in l.notes)
         = unlost l.notes l.lost (h.noted.discards ∙ ap length none-discarded) (h.noted.failures ∙ omega arith) h.marks in
         rw (← h.items) (shows_events (yields_in (frames_taken ds)) (lines_in l) (rw h.noted.lines at clear) in-full)
