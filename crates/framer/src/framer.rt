@@ -105,9 +105,7 @@ impl Framer {
         self.meter = crate::meter::closed_meter(m);
         self.bytes = [0; 1024];
         if m.waiting < m.room {
-            let q = self.queue;
-            self.queue = q.put(crate::meter::slot(m), &bytes[..m.filled]);
-            return self;
+            self.queue = self.queue.put(crate::meter::slot(m), &bytes[..m.filled]);
         }
         self
     }
@@ -126,8 +124,7 @@ impl Framer {
         }
         if crate::meter::closes(m, t, o, n as u8) {
             let mut next = self.close();
-            let none = next.meter;
-            next.meter = fill(&mut next.bytes, none, t, o, payload);
+            next.meter = fill(&mut next.bytes, next.meter, t, o, payload);
             return next;
         }
         self.meter = fill(&mut self.bytes, m, t, o, payload);
@@ -151,7 +148,7 @@ impl Framer {
         self
     }
 
-    // 13, 12; how long the oldest waiting frame is.
+    // 19, 13, 12; else how long the oldest waiting frame is.
     #[tactic(auto, unfolding(crate::specs::Framer::ready_of))]
     fn ready(self, room: usize) -> Result<usize, Cause>
         ensures { result ≡ ready_of self room }
@@ -159,8 +156,7 @@ impl Framer {
         let m = self.meter;
         check(crate::meter::sound(m), Cause::Unsound)?;
         check(m.waiting != 0, Cause::NothingWaits)?;
-        let q = self.queue;
-        let n = q.length_at(m.first);
+        let n = self.queue.length_at(m.first);
         check(n <= room, Cause::ShortOutput)?;
         Ok(n)
     }
@@ -177,10 +173,9 @@ impl Framer {
                 answer,
             };
         };
-        let m = self.meter;
-        let q = self.queue;
-        codec::number::put_bytes(out, 0, codec::field::part_at(&q.slots[m.first].bytes, 0, n));
-        self.meter = crate::meter::taken_meter(m);
+        let bytes = &self.queue.slots[self.meter.first].bytes;
+        codec::number::put_bytes(out, 0, codec::field::part_at(bytes, 0, n));
+        self.meter = crate::meter::taken_meter(self.meter);
         Taken {
             framer: self,
             answer,
@@ -192,8 +187,7 @@ impl Framer {
     pub fn fail(mut self) -> Framer
         ensures { result ≡ failed self }
     {
-        let m = self.meter;
-        self.meter = crate::meter::failed_meter(m);
+        self.meter = crate::meter::failed_meter(self.meter);
         self
     }
 }

@@ -33,12 +33,11 @@ pub struct Meter {
 pub fn sound(m: Meter) -> bool
     ensures { result ≡ sound_meter m }
 {
-    let d = m.deadline;
     (32 <= m.size)
         & (m.size <= 1024)
         & (1 <= m.room)
         & (m.room <= 8)
-        & (d.0 <= 655)
+        & (m.deadline.0 <= 655)
         & (m.filled <= m.size)
         & ((m.filled == 0) | (14 <= m.filled))
         & codec::time::in_range(m.time)
@@ -112,12 +111,11 @@ fn state_shown(lost: bool, o: Offer) -> Option<u8>
 fn item_of(lost: bool, offset: Ticks, o: Offer) -> Item
     ensures { result ≡ item_of lost offset o }
 {
-    let ident = o.ident;
     Item {
         offset,
         network: o.network,
         state: state_shown(lost, o),
-        ident,
+        ident: o.ident,
         carries: o.carries,
     }
 }
@@ -181,11 +179,7 @@ pub(crate) fn slot(m: Meter) -> usize
 fn counted(losses: u32) -> u32
     ensures { result ≡ counted losses }
 {
-    if losses < 4294967295 {
-        losses + 1
-    } else {
-        losses
-    }
+    losses.saturating_add(1)
 }
 
 // What closing the frame leaves of the numbers: it waits if there is room, else it is lost.

@@ -46,8 +46,7 @@ impl Queue {
         ensures { result ≡ queued self k frame.now }
     {
         if frame.len() <= 1024 && k <= 7 {
-            let slot = self.slots[k];
-            self.slots[k] = slot.hold(frame);
+            self.slots[k] = self.slots[k].hold(frame);
         }
         self
     }
