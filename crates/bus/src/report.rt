@@ -124,12 +124,11 @@ pub fn error(source: u64, time: Time, channels: u32, bits: u32) -> Report
 fn too_big(f: usize, r: Report, n: u8) -> bool
     ensures { result ≡ too_big f r n }
 {
-    let ident = r.ident;
     let item = Item {
         offset: Ticks(0),
         network: 0,
         state: Some(0),
-        ident,
+        ident: r.ident,
         carries: r.carries,
     };
     f < 14 + codec::item::item_len(item, n)
@@ -177,10 +176,9 @@ pub fn offer(s: Source, r: Report) -> Offer
     ensures { result ≡ offer_of s r }
 {
     let n = note(s, r);
-    let ident = r.ident;
     Offer {
         network: s.network,
-        ident,
+        ident: r.ident,
         carries: r.carries,
         state: n.state,
         due: n.due() | insists(r),

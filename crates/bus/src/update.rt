@@ -21,8 +21,7 @@ pub struct Update {
 fn counter_bits(counter: u32) -> u8
     ensures { Below (counter_bits counter) 16 result }
 {
-    let eighth = counter / 8;
-    if eighth <= 15 { eighth as u8 } else { 15 }
+    (counter / 8).min(15) as u8
 }
 
 #[tactic(auto, using(crate::proofs::BusLaws::can_made), unfolding(crate::specs::Update::can_byte))]
