@@ -119,8 +119,7 @@ impl Engine {
             return self.refused(cause);
         }
         self.count = pairs.len() / 2;
-        let sources = named(pairs, crate::engine::no_sources());
-        self.sources = sources;
+        self.sources = named(pairs, crate::engine::no_sources());
         self.framer = framer::framer::empty(size as usize, room as usize, Millis(deadline as u16));
         Outcome {
             engine: self,
@@ -131,9 +130,7 @@ impl Engine {
     fn reset(mut self, size: usize, room: usize, deadline: Millis) -> Engine
         ensures { result ≡ reset_of self size room deadline }
     {
-        let before = self.sources;
-        let after = reset_all(before);
-        self.sources = after;
+        self.sources = reset_all(self.sources);
         self.framer = framer::framer::empty(size, room, deadline);
         self
     }

@@ -16,8 +16,7 @@ impl Engine {
         if !s.tick_due() {
             return self;
         }
-        let f = self.framer;
-        self.framer = f.add(t, s.state_offer(), b"");
+        self.framer = self.framer.add(t, s.state_offer(), b"");
         self
     }
 
@@ -50,8 +49,7 @@ impl Engine {
         }
         let m = self.framer.meter;
         let mut e = self.states(t);
-        let f = e.framer;
-        e.framer = f.pass(t);
+        e.framer = e.framer.pass(t);
         Outcome {
             engine: e,
             answer: Ok(framer::meter::back_for(m, t)),
