@@ -87,7 +87,7 @@ fn fill(bytes: &mut [u8; 1024], m: Meter, t: Time, o: Offer, payload: &[u8]) -> 
     requires payload_len_bound { length payload.now ≤ 254 }
     ensures { (result ≡ filled_meter m t o (length payload.now)) × (bytes.new ≡ filled_bytes bytes.old m t o payload.now) }
 {
-    let item = crate::meter::next_item(m, t, o);
+    let item = m.next_item(t, o);
     let n = codec::item::item_len(item, payload.len() as u8);
     let after = placed_meter(m, t, n);
     let at = begin(bytes, m, t);
@@ -102,10 +102,10 @@ impl Framer {
     {
         let m = self.meter;
         let bytes = self.bytes;
-        self.meter = crate::meter::closed_meter(m);
+        self.meter = m.closed();
         self.bytes = [0; 1024];
         if m.waiting < m.room {
-            self.queue = self.queue.put(crate::meter::slot(m), &bytes[..m.filled]);
+            self.queue = self.queue.put(m.slot(), &bytes[..m.filled]);
         }
         self
     }
@@ -115,14 +115,14 @@ impl Framer {
         ensures { result ≡ add self t o payload.now }
     {
         let m = self.meter;
-        if !crate::meter::sound(m) {
+        if !m.sound() {
             return self;
         }
         let n = payload.len();
         if 254 < n {
             return self;
         }
-        if crate::meter::closes(m, t, o, n as u8) {
+        if m.closes(t, o, n as u8) {
             let mut next = self.close();
             next.meter = fill(&mut next.bytes, next.meter, t, o, payload);
             return next;
@@ -136,7 +136,7 @@ impl Framer {
         ensures { result ≡ passed self t }
     {
         let m = self.meter;
-        if !crate::meter::sound(m) {
+        if !m.sound() {
             return self;
         }
         if m.filled == 0 {
@@ -154,7 +154,7 @@ impl Framer {
         ensures { result ≡ ready_of self room }
     {
         let m = self.meter;
-        check(crate::meter::sound(m), Cause::Unsound)?;
+        check(m.sound(), Cause::Unsound)?;
         check(m.waiting != 0, Cause::NothingWaits)?;
         let n = self.queue.length_at(m.first);
         check(n <= room, Cause::ShortOutput)?;
@@ -175,7 +175,7 @@ impl Framer {
         };
         let bytes = &self.queue.slots[self.meter.first].bytes;
         codec::number::put_bytes(out, 0, codec::field::part_at(bytes, 0, n));
-        self.meter = crate::meter::taken_meter(self.meter);
+        self.meter = self.meter.taken();
         Taken {
             framer: self,
             answer,
@@ -187,7 +187,7 @@ impl Framer {
     pub fn fail(mut self) -> Framer
         ensures { result ≡ failed self }
     {
-        self.meter = crate::meter::failed_meter(self.meter);
+        self.meter = self.meter.failed();
         self
     }
 }

@@ -60,7 +60,7 @@ impl Engine {
         ensures { result ≡ cause_of self (Ok tt) }
     {
         check(
-            (self.count <= 8) & framer::meter::sound(self.framer.meter),
+            (self.count <= 8) & self.framer.meter.sound(),
             Cause::Unsound,
         )
     }

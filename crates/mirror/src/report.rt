@@ -33,7 +33,7 @@ impl Engine {
         self.sources[k] = bus::report::settle(s, r);
         Outcome {
             engine: self,
-            answer: Ok(framer::meter::back_for(m, r.time)),
+            answer: Ok(m.back_for(r.time)),
         }
     }
 

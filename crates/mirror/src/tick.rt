@@ -52,7 +52,7 @@ impl Engine {
         e.framer = e.framer.pass(t);
         Outcome {
             engine: e,
-            answer: Ok(framer::meter::back_for(m, t)),
+            answer: Ok(m.back_for(t)),
         }
     }
 }

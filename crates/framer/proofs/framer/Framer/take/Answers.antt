@@ -16,8 +16,8 @@ offset_bounds-self-self c = omega (arith, (sounds _ (readied _ _ _ (sym c.ready-
 
 pub returns-clause-value : goal.returns-clause-value
 returns-clause-value c =
-    (take_done _ _ _ _ _ _ _ c.ready-answer.ensures c.in-Ok.is c.taken_meter-self.ensures c.part_at.ensures c.put_bytes.ensures).0
+    (take_done _ _ _ _ _ _ _ c.ready-answer.ensures c.in-Ok.is c.taken-self.ensures c.part_at.ensures c.put_bytes.ensures).0
 
 pub returns-clause-out_after : goal.returns-clause-out_after
 returns-clause-out_after c =
-    (take_done _ _ _ _ _ _ _ c.ready-answer.ensures c.in-Ok.is c.taken_meter-self.ensures c.part_at.ensures c.put_bytes.ensures).1
+    (take_done _ _ _ _ _ _ _ c.ready-answer.ensures c.in-Ok.is c.taken-self.ensures c.part_at.ensures c.put_bytes.ensures).1
