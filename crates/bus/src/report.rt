@@ -15,10 +15,12 @@ pub struct Report {
     pub source: u64,
     pub time: Time,
     pub ident: Ident,
+    // as `Item.carries` (docs/DECISIONS.md, "Forms that are asked for")
     pub carries: bool,
-    // identifier, cycle, channel and error bits are in range
+    // identifier, cycle, channel and error bits are in range; no Result, since 7, 2, 4 and 3 go before its cause
     pub ranged: bool,
-    // the bits of the state byte that are not bound to this frame, and the frame-bound ones that it raises
+    // the bits of the state byte that are not bound to this frame, and the frame-bound ones that it raises;
+    // two masks and no Option, since 255 and 0 say that nothing is bound (docs/DECISIONS.md, "The engine")
     pub kept: u8,
     pub raised: u8,
 }
@@ -54,7 +56,8 @@ pub fn lin(source: u64, time: Time, pid: u32, errors: u32) -> Report
     }
 }
 
-// A frame of FlexRay, or where it carries nothing a conflict in sending it, which raises bit 0.
+// A frame of FlexRay, or where it carries nothing a conflict in sending it, which raises bit 0. The three numbers
+// stay arguments, as the call has them: a struct would be a narrower type.
 #[tactic(auto, unfolding(crate::specs::Report::flexray_report))]
 fn flexray_report(
     source: u64,

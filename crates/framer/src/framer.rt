@@ -14,6 +14,8 @@ use codec::time::{Millis, Time};
 #[derive(Clone, Copy)]
 pub struct Framer {
     pub meter: Meter,
+    // an empty frame is `[0; 1024]` (docs/DECISIONS.md, "Forms that are asked for"); how much of it is filled stands in
+    // the meter, so that deciding needs no bytes
     pub bytes: [u8; 1024],
     pub queue: Queue,
 }

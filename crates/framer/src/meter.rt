@@ -13,7 +13,8 @@ pub struct Meter {
     pub size: usize,
     pub room: usize,
     pub deadline: Millis,
-    // how many bytes the frame being filled has, 0 before its header, and its header time
+    // how many bytes the frame being filled has, 0 before its header, and its header time; no Option of
+    // both: a caller may hand in any engine value, so the soundness rule asks of both, and an empty frame keeps an old time
     pub filled: usize,
     pub time: Time,
     // the next sequence number
@@ -23,7 +24,7 @@ pub struct Meter {
     // the frame last taken can still be called failed; how many were
     pub out: bool,
     pub failures: u32,
-    // the slot of the oldest waiting frame, and how many wait
+    // the slot of the oldest waiting frame, and how many wait: a ring in fixed memory (docs/DECISIONS.md, "The engine")
     pub first: usize,
     pub waiting: usize,
 }
@@ -61,6 +62,7 @@ fn is_ticks(e: Elapsed) -> bool
     matches!(e, Elapsed::Ticks(_))
 }
 
+// No Option: where it is no count of ticks the frame closes first, and the offset is asked of the next one.
 fn ticks_in(e: Elapsed) -> Ticks
     ensures { result ≡ ticks_in e }
 {
@@ -70,6 +72,7 @@ fn ticks_in(e: Elapsed) -> Ticks
     }
 }
 
+// 0 where it is not backwards: a distance, and no flag.
 fn back_in(e: Elapsed) -> Nanos
     ensures { result ≡ back_in e }
 {
@@ -141,6 +144,7 @@ impl Meter {
     }
 
     // How far a clock that reads t stands behind the header time; an empty frame has none to be behind.
+    // 0 where it is not behind, and no Option: a distance, and no flag.
     #[tactic(auto, unfolding(crate::specs::Meter::back_for))]
     pub fn back_for(self, t: Time) -> Nanos
         ensures { result ≡ back_for self t }

@@ -11,7 +11,7 @@ use framer::framer::Framer;
 
 #[derive(Clone, Copy)]
 pub struct Engine {
-    // how many sources there are, 0 before setup
+    // how many sources there are, 0 before setup: no Option, so that one soundness rule serves before and after
     pub count: usize,
     pub sources: [Source; 8],
     pub framer: Framer,

@@ -56,6 +56,7 @@ impl Engine {
         self.report(bus::report::lin(source, time, pid, errors), payload)
     }
 
+    // Channels, slot and cycle stay arguments, here and in `conflict`: a struct of them would be a narrower type.
     pub fn flexray(
         self,
         source: u64,

@@ -20,7 +20,7 @@ impl Engine {
         self
     }
 
-    // In order of source number.
+    // In order of source number, and by number, since each source's tick changes the framer too.
     fn states(self, t: Time) -> Engine
         requires { self.count ≤ 8 }
         ensures { result ≡ states_of self.count 0 self t }
