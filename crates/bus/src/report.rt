@@ -158,13 +158,12 @@ pub fn report_cause(count: usize, f: usize, s: Source, r: Report, n: usize) -> R
 
 // The frame-bound bits written into the current byte.
 #[tactic(auto, unfolding(crate::specs::Report::noted))]
-fn note(s: Source, r: Report) -> Source
+fn note(mut s: Source, r: Report) -> Source
     ensures { result ≡ noted s r }
 {
-    let mut n = s;
-    n.state = s.state & r.kept | r.raised;
-    n.known = s.known | (r.kept < 255);
-    n
+    s.state = s.state & r.kept | r.raised;
+    s.known |= r.kept < 255;
+    s
 }
 
 // A raised bit is never left out; a report without a payload is there to tell the state.

@@ -83,11 +83,10 @@ pub fn update_cause(count: usize, s: Source, u: Update) -> Result<(), Cause>
 }
 
 #[tactic(auto, unfolding(crate::specs::Update::updated))]
-pub fn apply(s: Source, u: Update) -> Source
+pub fn apply(mut s: Source, u: Update) -> Source
     ensures { result ≡ updated s u }
 {
-    let mut r = s;
-    r.state = u.state;
-    r.known = true;
-    r
+    s.state = u.state;
+    s.known = true;
+    s
 }

@@ -65,21 +65,20 @@ fn lay(bytes: &mut [u8; 1024], at: usize, item: Item, payload: &[u8], total: usi
 
 // The bounds are asked for and no type carries them: a caller may hand in any engine value, and 19 answers it.
 #[tactic(auto, unfolding(crate::specs::Meter::placed_meter))]
-fn placed_meter(m: Meter, t: Time, n: usize) -> Meter
+fn placed_meter(mut m: Meter, t: Time, n: usize) -> Meter
     requires filled_bound { m.filled ≤ 1024 }
     requires n_bound { n ≤ 265 }
     ensures { result ≡ placed_meter m t n }
 {
-    let mut r = m;
-    r.lost = false;
+    m.lost = false;
     if m.filled != 0 {
-        r.filled = m.filled + n;
-        return r;
+        m.filled += n;
+        return m;
     }
-    r.filled = 14 + n;
-    r.time = t;
-    r.sequence = std::num::wrapping_add_u8(m.sequence, 1);
-    r
+    m.filled = 14 + n;
+    m.time = t;
+    m.sequence = std::num::wrapping_add_u8(m.sequence, 1);
+    m
 }
 
 // The next item behind the last, or behind a header where there is none. The array is lent, so that an item moves no other byte.
