@@ -37,7 +37,8 @@ pub struct Addition {
     pub filter: Filter,
 }
 
-// A number in range is its own remainder; one that is not is refused.
+// A number in range is its own remainder; one that is not is refused. Here and not beside the codec's `low8`, since the
+// codec has no number of 16 bits to cut.
 pub fn low16(x: u32) -> u16
     ensures { result ≡ x % 65536 }
 {

@@ -15,10 +15,12 @@ pub struct Report {
     pub source: u64,
     pub time: Time,
     pub ident: Ident,
+    // as `Item.carries` (docs/DECISIONS.md, "Forms that are asked for")
     pub carries: bool,
-    // identifier, cycle, channel and error bits are in range
+    // identifier, cycle, channel and error bits are in range; no Result, since 7, 2, 4 and 3 go before its cause
     pub ranged: bool,
-    // the bits of the state byte that are not bound to this frame, and the frame-bound ones that it raises
+    // the bits of the state byte that are not bound to this frame, and the frame-bound ones that it raises;
+    // two masks and no Option, since 255 and 0 say that nothing is bound (docs/DECISIONS.md, "The engine")
     pub kept: u8,
     pub raised: u8,
 }
@@ -54,7 +56,8 @@ pub fn lin(source: u64, time: Time, pid: u32, errors: u32) -> Report
     }
 }
 
-// A frame of FlexRay, or where it carries nothing a conflict in sending it, which raises bit 0.
+// A frame of FlexRay, or where it carries nothing a conflict in sending it, which raises bit 0. The three numbers
+// stay arguments, as the call has them: a struct would be a narrower type.
 #[tactic(auto, unfolding(crate::specs::Report::flexray_report))]
 fn flexray_report(
     source: u64,
@@ -124,12 +127,11 @@ pub fn error(source: u64, time: Time, channels: u32, bits: u32) -> Report
 fn too_big(f: usize, r: Report, n: u8) -> bool
     ensures { result ≡ too_big f r n }
 {
-    let ident = r.ident;
     let item = Item {
         offset: Ticks(0),
         network: 0,
         state: Some(0),
-        ident,
+        ident: r.ident,
         carries: r.carries,
     };
     f < 14 + codec::item::item_len(item, n)
@@ -156,13 +158,12 @@ pub fn report_cause(count: usize, f: usize, s: Source, r: Report, n: usize) -> R
 
 // The frame-bound bits written into the current byte.
 #[tactic(auto, unfolding(crate::specs::Report::noted))]
-fn note(s: Source, r: Report) -> Source
+fn note(mut s: Source, r: Report) -> Source
     ensures { result ≡ noted s r }
 {
-    let mut n = s;
-    n.state = s.state & r.kept | r.raised;
-    n.known = s.known | (r.kept < 255);
-    n
+    s.state = s.state & r.kept | r.raised;
+    s.known |= r.kept < 255;
+    s
 }
 
 // A raised bit is never left out; a report without a payload is there to tell the state.
@@ -177,10 +178,9 @@ pub fn offer(s: Source, r: Report) -> Offer
     ensures { result ≡ offer_of s r }
 {
     let n = note(s, r);
-    let ident = r.ident;
     Offer {
         network: s.network,
-        ident,
+        ident: r.ident,
         carries: r.carries,
         state: n.state,
         due: n.due() | insists(r),

@@ -79,8 +79,7 @@ impl Source {
             Ident::FlexRay { slot, cycle, .. } => {
                 return crate::filter::slot_passes(places, slot, cycle);
             }
-            Ident::FlexRayError(_) => return false,
-            Ident::Bare(_) => return false,
+            Ident::FlexRayError(_) | Ident::Bare(_) => return false,
         };
         crate::filter::key_passes(places, key)
     }
@@ -116,7 +115,6 @@ impl Source {
         self
     }
 
-    // 11
     #[tactic(auto, unfolding(crate::specs::Source::remove_cause))]
     pub fn remove_cause(self, number: u64) -> Result<(), Cause>
         ensures { result ≡ remove_cause self number }

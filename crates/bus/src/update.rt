@@ -21,8 +21,7 @@ pub struct Update {
 fn counter_bits(counter: u32) -> u8
     ensures { Below (counter_bits counter) 16 result }
 {
-    let eighth = counter / 8;
-    if eighth <= 15 { eighth as u8 } else { 15 }
+    (counter / 8).min(15) as u8
 }
 
 #[tactic(auto, using(crate::proofs::BusLaws::can_made), unfolding(crate::specs::Update::can_byte))]
@@ -84,11 +83,10 @@ pub fn update_cause(count: usize, s: Source, u: Update) -> Result<(), Cause>
 }
 
 #[tactic(auto, unfolding(crate::specs::Update::updated))]
-pub fn apply(s: Source, u: Update) -> Source
+pub fn apply(mut s: Source, u: Update) -> Source
     ensures { result ≡ updated s u }
 {
-    let mut r = s;
-    r.state = u.state;
-    r.known = true;
-    r
+    s.state = u.state;
+    s.known = true;
+    s
 }

@@ -1,8 +1,8 @@
 -- Any two outcomes that a public function's own contract permits coincide.
 use Rattle.std.proofs.Common.{◌≡◌, sym, ◌∙◌}
-use Rattle.framer.proofs.meter.sound.Reads as sound
+use Rattle.framer.proofs.meter.Meter.sound.Reads as sound
 use Rattle.framer.proofs.meter.limits_ok.Reads as limits-ok
-use Rattle.framer.proofs.meter.back_for.Reads as back-for
+use Rattle.framer.proofs.meter.Meter.back_for.Reads as back-for
 use Rattle.framer.proofs.framer.empty.Reads as empty
 use Rattle.framer.proofs.framer.Framer.add.Reads as add
 use Rattle.framer.proofs.framer.Framer.pass.Reads as pass

@@ -1,4 +1,5 @@
 // Why the engine refuses a call (docs/RULES.md, "Answers"). The first test that fails gives the cause.
+// The causes of the whole engine stand here, in the lowest crate that needs them.
 ghost use Rattle.std.specs.Prelude.{◌≡◌};
 ghost use Rattle.framer.specs.Cause.{number_of, guard};
 

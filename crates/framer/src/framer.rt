@@ -14,6 +14,8 @@ use codec::time::{Millis, Time};
 #[derive(Clone, Copy)]
 pub struct Framer {
     pub meter: Meter,
+    // an empty frame is `[0; 1024]` (docs/DECISIONS.md, "Forms that are asked for"); how much of it is filled stands in
+    // the meter, so that deciding needs no bytes
     pub bytes: [u8; 1024],
     pub queue: Queue,
 }
@@ -63,21 +65,20 @@ fn lay(bytes: &mut [u8; 1024], at: usize, item: Item, payload: &[u8], total: usi
 
 // The bounds are asked for and no type carries them: a caller may hand in any engine value, and 19 answers it.
 #[tactic(auto, unfolding(crate::specs::Meter::placed_meter))]
-fn placed_meter(m: Meter, t: Time, n: usize) -> Meter
+fn placed_meter(mut m: Meter, t: Time, n: usize) -> Meter
     requires filled_bound { m.filled ≤ 1024 }
     requires n_bound { n ≤ 265 }
     ensures { result ≡ placed_meter m t n }
 {
-    let mut r = m;
-    r.lost = false;
+    m.lost = false;
     if m.filled != 0 {
-        r.filled = m.filled + n;
-        return r;
+        m.filled += n;
+        return m;
     }
-    r.filled = 14 + n;
-    r.time = t;
-    r.sequence = std::num::wrapping_add_u8(m.sequence, 1);
-    r
+    m.filled = 14 + n;
+    m.time = t;
+    m.sequence = std::num::wrapping_add_u8(m.sequence, 1);
+    m
 }
 
 // The next item behind the last, or behind a header where there is none. The array is lent, so that an item moves no other byte.
@@ -87,7 +88,7 @@ fn fill(bytes: &mut [u8; 1024], m: Meter, t: Time, o: Offer, payload: &[u8]) -> 
     requires payload_len_bound { length payload.now ≤ 254 }
     ensures { (result ≡ filled_meter m t o (length payload.now)) × (bytes.new ≡ filled_bytes bytes.old m t o payload.now) }
 {
-    let item = crate::meter::next_item(m, t, o);
+    let item = m.next_item(t, o);
     let n = codec::item::item_len(item, payload.len() as u8);
     let after = placed_meter(m, t, n);
     let at = begin(bytes, m, t);
@@ -102,12 +103,10 @@ impl Framer {
     {
         let m = self.meter;
         let bytes = self.bytes;
-        self.meter = crate::meter::closed_meter(m);
+        self.meter = m.closed();
         self.bytes = [0; 1024];
         if m.waiting < m.room {
-            let q = self.queue;
-            self.queue = q.put(crate::meter::slot(m), &bytes[..m.filled]);
-            return self;
+            self.queue = self.queue.put(m.slot(), &bytes[..m.filled]);
         }
         self
     }
@@ -117,17 +116,16 @@ impl Framer {
         ensures { result ≡ add self t o payload.now }
     {
         let m = self.meter;
-        if !crate::meter::sound(m) {
+        if !m.sound() {
             return self;
         }
         let n = payload.len();
         if 254 < n {
             return self;
         }
-        if crate::meter::closes(m, t, o, n as u8) {
+        if m.closes(t, o, n as u8) {
             let mut next = self.close();
-            let none = next.meter;
-            next.meter = fill(&mut next.bytes, none, t, o, payload);
+            next.meter = fill(&mut next.bytes, next.meter, t, o, payload);
             return next;
         }
         self.meter = fill(&mut self.bytes, m, t, o, payload);
@@ -139,7 +137,7 @@ impl Framer {
         ensures { result ≡ passed self t }
     {
         let m = self.meter;
-        if !crate::meter::sound(m) {
+        if !m.sound() {
             return self;
         }
         if m.filled == 0 {
@@ -151,16 +149,15 @@ impl Framer {
         self
     }
 
-    // 13, 12; how long the oldest waiting frame is.
+    // 19, 13, 12; else how long the oldest waiting frame is.
     #[tactic(auto, unfolding(crate::specs::Framer::ready_of))]
     fn ready(self, room: usize) -> Result<usize, Cause>
         ensures { result ≡ ready_of self room }
     {
         let m = self.meter;
-        check(crate::meter::sound(m), Cause::Unsound)?;
+        check(m.sound(), Cause::Unsound)?;
         check(m.waiting != 0, Cause::NothingWaits)?;
-        let q = self.queue;
-        let n = q.length_at(m.first);
+        let n = self.queue.length_at(m.first);
         check(n <= room, Cause::ShortOutput)?;
         Ok(n)
     }
@@ -177,10 +174,9 @@ impl Framer {
                 answer,
             };
         };
-        let m = self.meter;
-        let q = self.queue;
-        codec::number::put_bytes(out, 0, codec::field::part_at(&q.slots[m.first].bytes, 0, n));
-        self.meter = crate::meter::taken_meter(m);
+        let bytes = &self.queue.slots[self.meter.first].bytes;
+        codec::number::put_bytes(out, 0, codec::field::part_at(bytes, 0, n));
+        self.meter = self.meter.taken();
         Taken {
             framer: self,
             answer,
@@ -192,8 +188,7 @@ impl Framer {
     pub fn fail(mut self) -> Framer
         ensures { result ≡ failed self }
     {
-        let m = self.meter;
-        self.meter = crate::meter::failed_meter(m);
+        self.meter = self.meter.failed();
         self
     }
 }

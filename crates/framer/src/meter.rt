@@ -13,7 +13,8 @@ pub struct Meter {
     pub size: usize,
     pub room: usize,
     pub deadline: Millis,
-    // how many bytes the frame being filled has, 0 before its header, and its header time
+    // how many bytes the frame being filled has, 0 before its header, and its header time; no Option of
+    // both: a caller may hand in any engine value, so the soundness rule asks of both, and an empty frame keeps an old time
     pub filled: usize,
     pub time: Time,
     // the next sequence number
@@ -23,27 +24,9 @@ pub struct Meter {
     // the frame last taken can still be called failed; how many were
     pub out: bool,
     pub failures: u32,
-    // the slot of the oldest waiting frame, and how many wait
+    // the slot of the oldest waiting frame, and how many wait: a ring in fixed memory (docs/DECISIONS.md, "The engine")
     pub first: usize,
     pub waiting: usize,
-}
-
-// The part of the soundness rule that is the framer's.
-#[tactic(auto, unfolding(crate::specs::Meter::sound_meter))]
-pub fn sound(m: Meter) -> bool
-    ensures { result ≡ sound_meter m }
-{
-    let d = m.deadline;
-    (32 <= m.size)
-        & (m.size <= 1024)
-        & (1 <= m.room)
-        & (m.room <= 8)
-        & (d.0 <= 655)
-        & (m.filled <= m.size)
-        & ((m.filled == 0) | (14 <= m.filled))
-        & codec::time::in_range(m.time)
-        & (m.first <= 7)
-        & (m.waiting <= m.room)
 }
 
 #[tactic(auto, unfolding(crate::specs::Meter::limits_ok))]
@@ -73,12 +56,13 @@ pub(crate) fn empty_meter(size: usize, room: usize, deadline: Millis) -> Meter
     }
 }
 
-fn is_within(e: Elapsed) -> bool
+fn is_ticks(e: Elapsed) -> bool
     ensures { result ≡ is_within e }
 {
     matches!(e, Elapsed::Ticks(_))
 }
 
+// No Option: where it is no count of ticks the frame closes first, and the offset is asked of the next one.
 fn ticks_in(e: Elapsed) -> Ticks
     ensures { result ≡ ticks_in e }
 {
@@ -88,6 +72,7 @@ fn ticks_in(e: Elapsed) -> Ticks
     }
 }
 
+// 0 where it is not backwards: a distance, and no flag.
 fn back_in(e: Elapsed) -> Nanos
     ensures { result ≡ back_in e }
 {
@@ -112,68 +97,13 @@ fn state_shown(lost: bool, o: Offer) -> Option<u8>
 fn item_of(lost: bool, offset: Ticks, o: Offer) -> Item
     ensures { result ≡ item_of lost offset o }
 {
-    let ident = o.ident;
     Item {
         offset,
         network: o.network,
         state: state_shown(lost, o),
-        ident,
+        ident: o.ident,
         carries: o.carries,
     }
-}
-
-// An empty frame takes its header time from its first item.
-#[tactic(auto, unfolding(crate::specs::Meter::offset_for))]
-fn offset_for(m: Meter, t: Time) -> Ticks
-    ensures { result ≡ offset_for m t }
-{
-    if m.filled == 0 {
-        return Ticks(0);
-    }
-    ticks_in(codec::time::measure(m.time, t))
-}
-
-// How far a clock that reads t stands behind the header time; an empty frame has none to be behind.
-#[tactic(auto, unfolding(crate::specs::Meter::back_for))]
-pub fn back_for(m: Meter, t: Time) -> Nanos
-    ensures { result ≡ back_for m t }
-{
-    if m.filled == 0 {
-        return Nanos(0);
-    }
-    back_in(codec::time::measure(m.time, t))
-}
-
-// The item that the frame gets at time t, as things stand.
-pub(crate) fn next_item(m: Meter, t: Time, o: Offer) -> Item
-    ensures { result ≡ item_of m.lost (offset_for m t) o }
-{
-    item_of(m.lost, offset_for(m, t), o)
-}
-
-// Whether the frame closes before an item with n bytes of payload is added.
-pub(crate) fn closes(m: Meter, t: Time, o: Offer, n: u8) -> bool
-    ensures { result ≡ closes_for m t o n }
-{
-    if m.filled == 0 {
-        return false;
-    }
-    if !is_within(codec::time::measure(m.time, t)) {
-        return true;
-    }
-    if m.size < m.filled {
-        return true;
-    }
-    let item = item_of(m.lost, Ticks(0), o);
-    m.size - m.filled < codec::item::item_len(item, n)
-}
-
-// The slot behind the last waiting frame; eight slots in a ring.
-#[tactic(auto, unfolding(crate::specs::Meter::slot_of))]
-pub(crate) fn slot(m: Meter) -> usize
-    ensures { Below (slot_of m) 8 result }
-{
-    (m.first % 8 + m.waiting % 8) % 8
 }
 
 // One more loss, stopping at the last number that 32 bits hold.
@@ -181,54 +111,121 @@ pub(crate) fn slot(m: Meter) -> usize
 fn counted(losses: u32) -> u32
     ensures { result ≡ counted losses }
 {
-    if losses < 4294967295 {
-        losses + 1
-    } else {
-        losses
-    }
+    losses.saturating_add(1)
 }
 
-// What closing the frame leaves of the numbers: it waits if there is room, else it is lost.
-#[tactic(auto, unfolding(crate::specs::Meter::closed_meter))]
-pub(crate) fn closed_meter(m: Meter) -> Meter
-    ensures { result ≡ closed_meter m }
-{
-    let mut r = m;
-    r.filled = 0;
-    if m.waiting < m.room {
-        r.waiting = m.waiting + 1;
-        return r;
+impl Meter {
+    // The part of the soundness rule that is the framer's.
+    #[tactic(auto, unfolding(crate::specs::Meter::sound_meter))]
+    pub fn sound(self) -> bool
+        ensures { result ≡ sound_meter self }
+    {
+        (32 <= self.size)
+            & (self.size <= 1024)
+            & (1 <= self.room)
+            & (self.room <= 8)
+            & (self.deadline.0 <= 655)
+            & (self.filled <= self.size)
+            & ((self.filled == 0) | (14 <= self.filled))
+            & codec::time::in_range(self.time)
+            & (self.first <= 7)
+            & (self.waiting <= self.room)
     }
-    r.lost = true;
-    r.discards = counted(m.discards);
-    r
-}
 
-// The next frame in the ring is the oldest; asked only where one waits.
-#[tactic(auto, unfolding(crate::specs::Meter::taken_meter))]
-pub(crate) fn taken_meter(m: Meter) -> Meter
-    ensures { result ≡ taken_meter m }
-{
-    if m.waiting == 0 {
-        return m;
+    // An empty frame takes its header time from its first item.
+    #[tactic(auto, unfolding(crate::specs::Meter::offset_for))]
+    fn offset_for(self, t: Time) -> Ticks
+        ensures { result ≡ offset_for self t }
+    {
+        if self.filled == 0 {
+            return Ticks(0);
+        }
+        ticks_in(codec::time::measure(self.time, t))
     }
-    let mut r = m;
-    r.first = (m.first % 8 + 1) % 8;
-    r.waiting = m.waiting - 1;
-    r.out = true;
-    r
-}
 
-// The frame that is out is lost too; where none is out, nothing is.
-pub(crate) fn failed_meter(m: Meter) -> Meter
-    ensures { result ≡ failed_meter m }
-{
-    if !m.out {
-        return m;
+    // How far a clock that reads t stands behind the header time; an empty frame has none to be behind.
+    // 0 where it is not behind, and no Option: a distance, and no flag.
+    #[tactic(auto, unfolding(crate::specs::Meter::back_for))]
+    pub fn back_for(self, t: Time) -> Nanos
+        ensures { result ≡ back_for self t }
+    {
+        if self.filled == 0 {
+            return Nanos(0);
+        }
+        back_in(codec::time::measure(self.time, t))
     }
-    let mut r = m;
-    r.lost = true;
-    r.out = false;
-    r.failures = counted(m.failures);
-    r
+
+    // The item that the frame gets at time t, as things stand.
+    pub(crate) fn next_item(self, t: Time, o: Offer) -> Item
+        ensures { result ≡ item_of self.lost (offset_for self t) o }
+    {
+        item_of(self.lost, self.offset_for(t), o)
+    }
+
+    // Whether the frame closes before an item with n bytes of payload is added.
+    pub(crate) fn closes(self, t: Time, o: Offer, n: u8) -> bool
+        ensures { result ≡ closes_for self t o n }
+    {
+        if self.filled == 0 {
+            return false;
+        }
+        if !is_ticks(codec::time::measure(self.time, t)) {
+            return true;
+        }
+        if self.size < self.filled {
+            return true;
+        }
+        let item = item_of(self.lost, Ticks(0), o);
+        self.size - self.filled < codec::item::item_len(item, n)
+    }
+
+    // The slot behind the last waiting frame; eight slots in a ring.
+    #[tactic(auto, unfolding(crate::specs::Meter::slot_of))]
+    pub(crate) fn slot(self) -> usize
+        ensures { Below (slot_of self) 8 result }
+    {
+        (self.first % 8 + self.waiting % 8) % 8
+    }
+
+    // What closing the frame leaves of the numbers: it waits if there is room, else it is lost.
+    #[tactic(auto, unfolding(crate::specs::Meter::closed_meter))]
+    pub(crate) fn closed(mut self) -> Meter
+        ensures { result ≡ closed_meter self }
+    {
+        self.filled = 0;
+        if self.waiting < self.room {
+            self.waiting += 1;
+            return self;
+        }
+        self.lost = true;
+        self.discards = counted(self.discards);
+        self
+    }
+
+    // The next frame in the ring is the oldest; asked only where one waits.
+    #[tactic(auto, unfolding(crate::specs::Meter::taken_meter))]
+    pub(crate) fn taken(mut self) -> Meter
+        ensures { result ≡ taken_meter self }
+    {
+        if self.waiting == 0 {
+            return self;
+        }
+        self.first = (self.first % 8 + 1) % 8;
+        self.waiting -= 1;
+        self.out = true;
+        self
+    }
+
+    // The frame that is out is lost too; where none is out, nothing is.
+    pub(crate) fn failed(mut self) -> Meter
+        ensures { result ≡ failed_meter self }
+    {
+        if !self.out {
+            return self;
+        }
+        self.lost = true;
+        self.out = false;
+        self.failures = counted(self.failures);
+        self
+    }
 }

@@ -3,7 +3,8 @@ ghost use Rattle.std.specs.Prelude.{◌≡◌, ◌≤◌, length};
 ghost use Rattle.codec.specs.Number.{Below};
 ghost use Rattle.framer.specs.Queue.{empty_queue, held, queued, length_at};
 
-// The frame is the first `length` bytes.
+// The frame is the first `length` bytes, since there is no heap; no invariant says that they are there, since a caller may
+// hand in any engine value (`length_at` cuts).
 #[derive(Clone, Copy)]
 pub struct Slot {
     pub bytes: [u8; 1024],
@@ -46,8 +47,7 @@ impl Queue {
         ensures { result ≡ queued self k frame.now }
     {
         if frame.len() <= 1024 && k <= 7 {
-            let slot = self.slots[k];
-            self.slots[k] = slot.hold(frame);
+            self.slots[k] = self.slots[k].hold(frame);
         }
         self
     }

@@ -11,7 +11,7 @@ use framer::framer::Framer;
 
 #[derive(Clone, Copy)]
 pub struct Engine {
-    // how many sources there are, 0 before setup
+    // how many sources there are, 0 before setup: no Option, so that one soundness rule serves before and after
     pub count: usize,
     pub sources: [Source; 8],
     pub framer: Framer,
@@ -60,7 +60,7 @@ impl Engine {
         ensures { result ≡ cause_of self (Ok tt) }
     {
         check(
-            (self.count <= 8) & framer::meter::sound(self.framer.meter),
+            (self.count <= 8) & self.framer.meter.sound(),
             Cause::Unsound,
         )
     }

@@ -20,8 +20,7 @@ impl Engine {
     {
         let answer = self.may_fail();
         if answer.is_ok() {
-            let f = self.framer;
-            self.framer = f.fail();
+            self.framer = self.framer.fail();
         }
         Outcome {
             engine: self,

@@ -28,12 +28,12 @@ impl Engine {
         if let Err(cause) = self.accepts(s, r, payload.len()) {
             return self.refused(cause);
         }
-        let f = self.framer;
-        self.framer = f.add(r.time, bus::report::offer(s, r), payload);
+        let m = self.framer.meter;
+        self.framer = self.framer.add(r.time, bus::report::offer(s, r), payload);
         self.sources[k] = bus::report::settle(s, r);
         Outcome {
             engine: self,
-            answer: Ok(framer::meter::back_for(f.meter, r.time)),
+            answer: Ok(m.back_for(r.time)),
         }
     }
 
@@ -56,6 +56,7 @@ impl Engine {
         self.report(bus::report::lin(source, time, pid, errors), payload)
     }
 
+    // Channels, slot and cycle stay arguments, here and in `conflict`: a struct of them would be a narrower type.
     pub fn flexray(
         self,
         source: u64,

@@ -35,6 +35,7 @@ fn pair_ok(kind: u32, id: u32) -> bool
     (1 <= kind) & (kind <= 3) & (id <= 255)
 }
 
+// The library has no pairs of a slice, so that these three take them off the front; `named` counts their place beside.
 // The kind and id stand among the pairs.
 fn named_again(pairs: &[u32], kind: u32, id: u32) -> bool
     ensures { result ≡ named_again kind id pairs.now }
@@ -98,7 +99,6 @@ fn reset_all(before: [Source; 8]) -> [Source; 8]
 }
 
 impl Engine {
-    // 14
     #[tactic(auto, unfolding(crate::specs::Setup::setup_cause, crate::specs::Engine::cause_of))]
     fn may_set_up(self, size: u64, room: u64, deadline: u64, pairs: &[u32]) -> Result<(), Cause>
         ensures { result ≡ setup_cause self size room deadline pairs.now }
@@ -111,6 +111,8 @@ impl Engine {
         )
     }
 
+    // Three numbers of any size, as the call has them: what is out of range is refused, and a type of those in range is narrower.
+    // Kind and id in turn, since an odd count is refused with 14, and a slice of pairs would exclude it.
     #[tactic(auto, unfolding(crate::specs::Setup::setup_of))]
     pub fn setup(mut self, size: u64, room: u64, deadline: u64, pairs: &[u32]) -> Outcome<()>
         ensures { result ≡ setup_of self size room deadline pairs.now }
@@ -119,8 +121,7 @@ impl Engine {
             return self.refused(cause);
         }
         self.count = pairs.len() / 2;
-        let sources = named(pairs, crate::engine::no_sources());
-        self.sources = sources;
+        self.sources = named(pairs, crate::engine::no_sources());
         self.framer = framer::framer::empty(size as usize, room as usize, Millis(deadline as u16));
         Outcome {
             engine: self,
@@ -131,14 +132,11 @@ impl Engine {
     fn reset(mut self, size: usize, room: usize, deadline: Millis) -> Engine
         ensures { result ≡ reset_of self size room deadline }
     {
-        let before = self.sources;
-        let after = reset_all(before);
-        self.sources = after;
+        self.sources = reset_all(self.sources);
         self.framer = framer::framer::empty(size, room, deadline);
         self
     }
 
-    // 14
     #[tactic(auto, unfolding(crate::specs::Setup::switch_cause, crate::specs::Engine::cause_of))]
     fn may_switch(self, size: u64, room: u64, deadline: u64) -> Result<(), Cause>
         ensures { result ≡ switch_cause self size room deadline }

@@ -115,8 +115,7 @@ impl Engine {
         let s = self.sources[k];
         let answer = self.adds(s, a);
         if answer.is_ok() {
-            let filter = a.filter;
-            self.sources[k] = s.add_filter(filter);
+            self.sources[k] = s.add_filter(a.filter);
         }
         Outcome {
             engine: self,

@@ -14,10 +14,8 @@ impl Engine {
         if let Err(cause) = self.sound() {
             return self.refused(cause);
         }
-        let f = self.framer;
-        let taken = f.take(out);
-        let after = taken.framer;
-        self.framer = after;
+        let taken = self.framer.take(out);
+        self.framer = taken.framer;
         Outcome {
             engine: self,
             answer: taken.answer,

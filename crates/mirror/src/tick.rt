@@ -16,12 +16,11 @@ impl Engine {
         if !s.tick_due() {
             return self;
         }
-        let f = self.framer;
-        self.framer = f.add(t, s.state_offer(), b"");
+        self.framer = self.framer.add(t, s.state_offer(), b"");
         self
     }
 
-    // In order of source number.
+    // In order of source number, and by number, since each source's tick changes the framer too.
     fn states(self, t: Time) -> Engine
         requires { self.count ≤ 8 }
         ensures { result ≡ states_of self.count 0 self t }
@@ -50,11 +49,10 @@ impl Engine {
         }
         let m = self.framer.meter;
         let mut e = self.states(t);
-        let f = e.framer;
-        e.framer = f.pass(t);
+        e.framer = e.framer.pass(t);
         Outcome {
             engine: e,
-            answer: Ok(framer::meter::back_for(m, t)),
+            answer: Ok(m.back_for(t)),
         }
     }
 }

@@ -1,5 +1,5 @@
 use lib.Bits.{and_mask}
-use Rattle.std.proofs.Common.{refl, sym, ap, ◌∙◌}
+use Rattle.std.proofs.Common.{refl, sym, ap, inl, inr, ◌∙◌}
 use Rattle.codec.specs.declared.ident.Ident.TheVariants as Ident
 use Rattle.bus.specs.Source.{passes}
 use Rattle.bus.proofs.BusLaws.{passes_alike, passes_none}
@@ -12,10 +12,12 @@ returns-in-FlexRay c =
     c.slot_passes.ensures ∙ passes_alike ps _ _ (λ f. refl) ∙ sym (ap (passes ps) c.in-FlexRay.is)
 
 pub returns-in-FlexRayError : goal.returns-in-FlexRayError
-returns-in-FlexRayError c = let ps = c.args.self.places in sym (ap (passes ps) c.in-FlexRayError.is ∙ passes_none ps _ (λ f. refl))
-
-pub returns-in-Bare : goal.returns-in-Bare
-returns-in-Bare c = let ps = c.args.self.places in sym (ap (passes ps) c.in-Bare.is ∙ passes_none ps _ (λ f. refl))
+returns-in-FlexRayError c =
+    let ps = c.args.self.places in
+    sym (elim c.in-FlexRayError.is [
+      | inl w ↦ ap (passes ps) w.1 ∙ passes_none ps _ (λ f. refl)
+      | inr w ↦ ap (passes ps) w.1 ∙ passes_none ps _ (λ f. refl)
+    ])
 
 pub returns : goal.returns
 returns c =
