@@ -19,10 +19,7 @@ fn answered(
     out: &mut [u8],
     at: usize,
 ) -> Taped {
-    let answer = match written {
-        Ok(_) => 0,
-        Err(why) => u8::from(why),
-    };
+    let answer = reader::number(written);
     Taped {
         made: crate::engine::answered(engine, script::answer::done(out, at, answer)),
         held: written.unwrap_or(held),
