@@ -26,6 +26,7 @@ fn rewrite(out: &mut [u8], at: usize, frame: &[u8], size: usize) -> Option<usize
     rewrite_in(out, at, frame, room.get_mut(..size)?)
 }
 
+// The last part of `call::with_bytes`: of the calls that have bytes no other is left, so that `_` is never reached.
 pub(crate) fn make(call: Call, frame: &[u8], out: &mut [u8], at: usize) -> Option<usize> {
     match call {
         Call::Read => script::answer::judged(out, at, reader::judge(frame)),

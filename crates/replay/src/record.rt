@@ -1,5 +1,6 @@
 // A line of `record`: a note, a microphone's start or a frame becomes a field of the recording; any other
-// is played as a call, and the frame that an accepted take hands out becomes one.
+// is played as a call, and the frame that an accepted take hands out becomes one. The buffers go side by side, each
+// with how much of it is held (see input.rt).
 use crate::engine::Made;
 use mirror::engine::Engine;
 use recording::error::RecordError;
