@@ -1,6 +1,5 @@
 // Engine values that a caller might hand in, each with one counter out of its range.
 use codec::time::{Millis, Time};
-use framer::meter::Meter;
 use mirror::engine::Engine;
 
 // In the middle of its work, so that no call is refused for want of a source.
@@ -12,61 +11,62 @@ fn working() -> Engine {
     d.can(0, Time { sec: 16, nano: 0 }, 291, b"\x01\x02").engine
 }
 
-// The framer's numbers with the one of number k out of its range.
-fn breached(m: Meter, k: usize) -> Meter {
-    let mut r = m;
-    match k {
-        2 => r.size = 31,
-        3 => r.size = 1025,
-        4 => r.room = 0,
-        5 => r.room = 9,
-        6 => r.deadline = Millis(656),
-        7 => r.filled = 65,
-        8 => r.filled = 13,
-        9 => r.filled = usize::MAX,
-        10 => {
-            r.time = Time {
-                sec: 281474976710656,
-                nano: 0,
-            }
-        }
-        11 => {
-            r.time = Time {
-                sec: 0,
-                nano: 1000000000,
-            }
-        }
-        12 => r.first = 8,
-        13 => r.waiting = 3,
-        _ => {}
-    }
-    r
+// What is written over a counter, or over the header's time.
+#[derive(Clone, Copy)]
+pub(crate) enum Breach {
+    Nothing,
+    Sources(usize),
+    Size(usize),
+    Room(usize),
+    Deadline(Millis),
+    Filled(usize),
+    Header(Time),
+    First(usize),
+    Waiting(usize),
 }
 
-pub(crate) fn engine(k: usize) -> Engine {
-    let mut e = working();
-    if k == 1 {
-        e.count = 9;
-    }
-    e.framer.meter = breached(e.framer.meter, k);
-    e
-}
+const LATE: Time = Time {
+    sec: 281474976710656,
+    nano: 0,
+};
 
-pub(crate) fn name(k: usize) -> &'static [u8] {
-    match k {
-        0 => b"sound",
-        1 => b"nine sources",
-        2 => b"frame size 31",
-        3 => b"frame size 1025",
-        4 => b"queue room 0",
-        5 => b"queue room 9",
-        6 => b"deadline 656",
-        7 => b"filled past the frame size",
-        8 => b"filled within the header",
-        9 => b"filled past any array",
-        10 => b"header second 281474976710656",
-        11 => b"header nanosecond 1000000000",
-        12 => b"first slot 8",
-        _ => b"more waiting than room",
+const LONG: Time = Time {
+    sec: 0,
+    nano: 1000000000,
+};
+
+// Each with its name, in the order of the lines.
+pub(crate) const ALL: [(&'static [u8], Breach); 14] = [
+    (b"sound", Breach::Nothing),
+    (b"nine sources", Breach::Sources(9)),
+    (b"frame size 31", Breach::Size(31)),
+    (b"frame size 1025", Breach::Size(1025)),
+    (b"queue room 0", Breach::Room(0)),
+    (b"queue room 9", Breach::Room(9)),
+    (b"deadline 656", Breach::Deadline(Millis(656))),
+    (b"filled past the frame size", Breach::Filled(65)),
+    (b"filled within the header", Breach::Filled(13)),
+    (b"filled past any array", Breach::Filled(usize::MAX)),
+    (b"header second 281474976710656", Breach::Header(LATE)),
+    (b"header nanosecond 1000000000", Breach::Header(LONG)),
+    (b"first slot 8", Breach::First(8)),
+    (b"more waiting than room", Breach::Waiting(3)),
+];
+
+impl Breach {
+    pub(crate) fn engine(self) -> Engine {
+        let mut e = working();
+        match self {
+            Breach::Nothing => {}
+            Breach::Sources(n) => e.count = n,
+            Breach::Size(n) => e.framer.meter.size = n,
+            Breach::Room(n) => e.framer.meter.room = n,
+            Breach::Deadline(d) => e.framer.meter.deadline = d,
+            Breach::Filled(n) => e.framer.meter.filled = n,
+            Breach::Header(t) => e.framer.meter.time = t,
+            Breach::First(k) => e.framer.meter.first = k,
+            Breach::Waiting(n) => e.framer.meter.waiting = n,
+        }
+        e
     }
 }

@@ -53,7 +53,7 @@ fn tell<E: Write>(errors: &mut E, words: Words, before: u64, read: u64) {
 }
 
 // A proved loop has to end, and nothing says that the input does. So it counts its turns, up to a number that no run
-// reaches.
+// reaches. `replay` has a loop like it: a shared one would be a function over a closure that lends the buffers, no plainer.
 pub(crate) fn run<R: Read, W: Write, E: Write, J: Job>(
     input: &mut R,
     output: &mut W,

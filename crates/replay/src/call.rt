@@ -3,7 +3,7 @@ use crate::engine::Made;
 use mirror::engine::Engine;
 use script::call::Call;
 
-// Which word the bytes are, a payload or a frame, of a call that has them.
+// Which word the bytes are, a payload or a frame, of a call that has them. `_` is every call that is made without.
 fn bytes_word(call: &Call) -> Option<usize> {
     match call {
         Call::Read => Some(1),
@@ -17,7 +17,8 @@ fn bytes_word(call: &Call) -> Option<usize> {
     }
 }
 
-// The reports that have a payload, and the reader's calls, which leave the engine alone.
+// The reports that have a payload, and the reader's calls, which leave the engine alone. In parts, since a function stays
+// under 40 lines; `_` hands the rest on.
 fn with_bytes(engine: Engine, call: Call, bytes: &[u8], out: &mut [u8], at: usize) -> Made {
     match call {
         Call::Can { source, time, key } => {

@@ -5,7 +5,7 @@ use mirror::engine::{Engine, Outcome};
 use script::call::Call;
 
 // Where the answer ends: nothing is put where the line is no call. The frame that a take handed out stands at the front
-// of the buffer of frames, so many bytes of it.
+// of the buffer of frames, and `taken` is its length.
 #[derive(Drop)]
 pub(crate) struct Made {
     pub(crate) engine: Engine,
@@ -77,6 +77,7 @@ fn take(engine: Engine, size: usize, frame: &mut [u8], out: &mut [u8], at: usize
     }
 }
 
+// The numbers stand in an array with their count, since there is no heap.
 fn setup(
     engine: Engine,
     size: u64,
@@ -94,7 +95,8 @@ fn setup(
     done(outcome, out, at)
 }
 
-// The calls of the whole engine; those of one source are made apart.
+// The calls of the whole engine; those of one source are made apart. In parts, since a function stays under 40 lines;
+// `_` hands the rest on.
 pub(crate) fn make(
     engine: Engine,
     call: Call,

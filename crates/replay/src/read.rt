@@ -5,18 +5,12 @@ use script::call::Call;
 
 // A payload line has the number of the step at the same place.
 fn payload(out: &mut [u8], at: usize, frame: &[u8], place: usize) -> Option<usize> {
-    let answer = match reader::step(frame, place) {
-        Ok(_) => 0,
-        Err(why) => u8::from(why),
-    };
+    let answer = reader::number(reader::step(frame, place));
     script::answer::with_bytes(out, at, answer, reader::payload(frame, place))
 }
 
 fn rewrite_in(out: &mut [u8], at: usize, frame: &[u8], room: &mut [u8]) -> Option<usize> {
-    let answer = match reader::rewrite(frame, room) {
-        Ok(_) => 0,
-        Err(why) => u8::from(why),
-    };
+    let answer = reader::number(reader::rewrite(frame, room));
     script::answer::with_bytes(out, at, answer, room)
 }
 
@@ -32,6 +26,7 @@ fn rewrite(out: &mut [u8], at: usize, frame: &[u8], size: usize) -> Option<usize
     rewrite_in(out, at, frame, room.get_mut(..size)?)
 }
 
+// The last part of `call::with_bytes`: of the calls that have bytes no other is left, so that `_` is never reached.
 pub(crate) fn make(call: Call, frame: &[u8], out: &mut [u8], at: usize) -> Option<usize> {
     match call {
         Call::Read => script::answer::judged(out, at, reader::judge(frame)),

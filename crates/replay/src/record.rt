@@ -1,5 +1,6 @@
 // A line of `record`: a note, a microphone's start or a frame becomes a field of the recording; any other
-// is played as a call, and the frame that an accepted take hands out becomes one.
+// is played as a call, and the frame that an accepted take hands out becomes one. The buffers go side by side, each
+// with how much of it is held (see input.rt).
 use crate::engine::Made;
 use mirror::engine::Engine;
 use recording::error::RecordError;
@@ -19,10 +20,7 @@ fn answered(
     out: &mut [u8],
     at: usize,
 ) -> Taped {
-    let answer = match written {
-        Ok(_) => 0,
-        Err(why) => u8::from(why),
-    };
+    let answer = reader::number(written);
     Taped {
         made: crate::engine::answered(engine, script::answer::done(out, at, answer)),
         held: written.unwrap_or(held),

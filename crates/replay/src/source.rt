@@ -1,4 +1,5 @@
-// Calls of one source of the engine, but for the reports that have a payload.
+// Calls of one source of the engine, but for the reports that have a payload. In parts, since a function stays under 40
+// lines; `_` hands the rest on.
 use crate::engine::Made;
 use mirror::engine::{Engine, Outcome};
 use script::call::Call;
