@@ -69,12 +69,9 @@ copied l bs at next e h =
     let p : put_mid at (at + length bs - at) l bs ≡ over l at bs = rw (k, drop-drop (length bs) at l) (simp append_assoc) in
     rw e (wrote (omega arith) p)
 
--- bytes stored one by one; no bytes; and what a write that had room did
+-- bytes stored one by one, and what a write that had room did
 pub laid : {l : List ℕ} {at : ℕ} {cs : List ℕ} (b : ℕ) (bs : List ℕ) → cs ≡ (b ∷ bs) → at + length cs ≤ length l → Laid l at cs (stores (set l at b) at 1 bs) (at + suc (length bs))
 laid {l} {at} {cs} b bs e h = let g : at + suc (length bs) ≤ length l = rw e at h in rw e record { list = run l at b bs g; next = refl }
-
-pub laid_none : {l : List ℕ} {at : ℕ} {cs : List ℕ} → cs ≡ [] → Laid l at cs l at
-laid_none {l} {at} {cs} e = rw e record { list = paste-zero l at []; next = omega arith }
 
 pub kept : {l : List ℕ} {at : ℕ} {bs : List ℕ} {l' : List ℕ} {r : Option ℕ} → Wrote true l at bs l' r → at + length bs ≤ length l → l' ≡ over l at bs
 kept {l} {at} {bs} w h = w.list ∙ sym (hit (over l at bs) l l at (length bs) h refl)

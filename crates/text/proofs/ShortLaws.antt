@@ -4,9 +4,7 @@ use mathlib.Core.Path.{◌≡◌, refl, sym, ◌∙◌, ap}
 use mathlib.Core.Bool.{true}
 use mathlib.Core.List.{List, ◌++◌}
 use native.Mathlib.Omega.{arith}
-use native.Mathlib.Nat.{zero-add}
-use lib.ListN.{length, take, drop, length-append}
-use lib.Seq.{take_at}
+use lib.ListN.{length, length-append}
 use Rattle.codec.specs.Number.{over, Wrote}
 use Rattle.std.specs.Prelude.{Option, Some}
 use Rattle.codec.proofs.NumberLaws.{hit, kept, chain, chain_put, from_laid, length_over}
@@ -52,12 +50,6 @@ short_as {j} {k} {l} {at} {bs} {cs} {l'} {r} a e h =
 -- what was laid is written
 pub short_wrote : {k : ℕ} {l : List ℕ} {at : ℕ} {bs l' : List ℕ} {r : ℕ} → Short k l at bs l' r → Wrote true l at bs l' (Some r)
 short_wrote a = from_laid refl a.fits a.laid
-
--- what was laid at the front is the front
-pub front_is : {k : ℕ} {l bs l' : List ℕ} {n : ℕ} → Short k l 0 bs l' n → take n l' ≡ bs
-front_is {k} {l} {bs} {l'} {n} a =
-    let e : n ≡ length bs = a.laid.next ∙ zero-add (length bs) in
-    rw (a.laid.list, e) (take_at bs (drop (0 + length bs) l) (length bs) refl)
 
 pub short_is : {k : ℕ} {l : List ℕ} {at : ℕ} {bs cs l' : List ℕ} {r : ℕ} → Short k l at bs l' r → bs ≡ cs → Short k l at cs l' r
 short_is a e = rw e at a
