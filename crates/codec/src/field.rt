@@ -82,6 +82,7 @@ fn can_ident(key: u32, next: usize) -> Result<(Ident, usize), Refusal>
     }
 }
 
+// Each of `read_can` and `read_lin` is a row of the wire: one function of a width and a closure would hide which.
 #[tactic(auto, unfolding(crate::specs::Field::read_can))]
 fn read_can(s: &[u8], at: usize) -> Result<(Ident, usize), Refusal>
     ensures { result ≡ read_can s.now at }

@@ -81,7 +81,7 @@ fn front(line: &mut Line, start: Option<Time>, t: Time, it: Item, n: usize)
 }
 
 // A slice may be of any length, so the room is asked for first and the bytes are written straight to the
-// output.
+// output. script does so too, in lower case and without a line feed.
 fn with_bytes(out: &mut [u8], at: usize, front: &[u8], src: &[u8]) -> Option<usize>
     ensures { Wrote true out.old at (front.now ++ spread (fixed_of 16 2) src.now ++ (10 ∷ [])) out.new result }
 {

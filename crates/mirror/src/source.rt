@@ -37,6 +37,7 @@ impl Engine {
         check(source < self.count as u64, Cause::NoSource)
     }
 
+    // `start` and `stop` differ in a method, and are as short as a function of both would be to call.
     #[tactic(auto, unfolding(crate::specs::Source::start_of))]
     pub fn start(self, source: u64) -> Outcome<()>
         ensures { result ≡ start_of self source }

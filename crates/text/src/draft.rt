@@ -43,6 +43,7 @@ impl<const N: usize> Draft<N> {
         self.len += part.len();
     }
 
+    // As `put::decimal`, whose write may not fit and says so.
     pub fn decimal(&mut self, v: u64)
         ensures { Adds N self.old (decimal_of v) self.new }
     {
