@@ -35,7 +35,7 @@ fn pair_ok(kind: u32, id: u32) -> bool
     (1 <= kind) & (kind <= 3) & (id <= 255)
 }
 
-// The library has no pairs of a slice, so that these three take them off the front; `named` counts their place beside.
+// The library has no pairs of a slice, so these three take them off the front; `named` counts their place beside.
 // The kind and id stand among the pairs.
 fn named_again(pairs: &[u32], kind: u32, id: u32) -> bool
     ensures { result ≡ named_again kind id pairs.now }
