@@ -106,6 +106,7 @@ const NO_HEADER: Header = Header {
     length: 0,
 };
 
+// `reader::number` of one error: its clause is a case each, and this one is the definition.
 fn answer_of(judged: Result<Header, Refusal>) -> u8
     ensures { result ≡ judged_number judged }
 {
