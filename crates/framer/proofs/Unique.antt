@@ -1,5 +1,7 @@
 -- Any two outcomes that a public function's own contract permits coincide.
 use Rattle.std.proofs.Common.{◌≡◌, sym, ◌∙◌}
+use Rattle.framer.proofs.cause.check.Reads as check
+use Rattle.framer.proofs.cause.U8FromCause.from.Reads as cause-number
 use Rattle.framer.proofs.meter.Meter.sound.Reads as sound
 use Rattle.framer.proofs.meter.limits_ok.Reads as limits-ok
 use Rattle.framer.proofs.meter.Meter.back_for.Reads as back-for
@@ -8,6 +10,12 @@ use Rattle.framer.proofs.framer.Framer.add.Reads as add
 use Rattle.framer.proofs.framer.Framer.pass.Reads as pass
 use Rattle.framer.proofs.framer.Framer.take.Reads as take
 use Rattle.framer.proofs.framer.Framer.fail.Reads as fail
+
+pub check_unique : (κs : _) (a : _) (r r' : _) (x x' : _) → check.Post κs a r x → check.Post κs a r' x' → r ≡ r'
+check_unique κs a r r' x x' p q = p ∙ sym q
+
+pub cause_number_unique : (κs : _) (a : _) (r r' : _) (x x' : _) → cause-number.Post κs a r x → cause-number.Post κs a r' x' → r ≡ r'
+cause_number_unique κs a r r' x x' p q = p ∙ sym q
 
 pub sound_unique : (κs : _) (a : _) (r r' : _) (x x' : _) → sound.Post κs a r x → sound.Post κs a r' x' → r ≡ r'
 sound_unique κs a r r' x x' p q = p ∙ sym q
