@@ -49,9 +49,6 @@ pub record Left (m : Option Time) (t : Time) (s : List ℕ) (l : List ℕ) (from
   pub size : length out ≡ length l
   pub left : with_all (record { bytes = l; at = from }) (item_lines m t s 14) ≡ with_all (record { bytes = out; at = at }) (item_lines m t s place)
 
-pub left_first : (m : Option Time) (t : Time) (s l : List ℕ) (from : ℕ) → Left m t s l from l from 14
-left_first m t s l from = record { size = refl; left = refl }
-
 pub left_item : {m : Option Time} {t : Time} {s l : List ℕ} {from : ℕ} {out out' : List ℕ} {at at' place : ℕ} {d : Decoded} {p : Option ℕ} {when : Time} {payload : List ℕ}
     → Left m t s l from out at place → place < length s → read_item s place ≡ Ok d → when ≡ recovered_of t d.item.offset.0
     → payload ≡ bytes_at s d.start d.len → Wrote true out at (item_line m when d.item payload) out' p → at' ≡ unwrap_or p at → length out' ≡ length out

@@ -56,9 +56,6 @@ pub record Left (s l out : List ℕ) (at : ℕ) : Type 0 where
   pub clean : walk_of s at ≡ Ok tt
   pub same : over l 14 (body (items_of s 14)) ≡ over out at (body (items_of s at))
 
-pub left_first : (s l : List ℕ) → walk_of s 14 ≡ Ok tt → Left s l l 14
-left_first s l c = record { len = refl; clean = c; same = refl }
-
 pub left_item : {s l out : List ℕ} {at : ℕ} {d : Decoded} (pl : List ℕ) {out' : List ℕ} {p : Option ℕ}
     → Left s l out at → at < length s → length s ≤ length l → Bytes s → read_item s at ≡ Ok d
     → pl ≡ bytes_at s d.start d.len → Wrote (item_ok d.item (length pl)) out at (encode d.item pl) out' p → Left s l out' d.next

@@ -1,6 +1,6 @@
 -- Laws of the numbers of a setup line: what the loop keeps, and what it has shown at its end. Assumes nothing.
 use Prim.Native.Nat.{ℕ, suc, ◌+◌, ◌-◌, ◌≤◌, ◌<◌}
-use mathlib.Core.Path.{◌≡◌, refl, sym, ◌∙◌, ap}
+use mathlib.Core.Path.{◌≡◌, sym, ◌∙◌, ap}
 use mathlib.Core.Bool.{true, false}
 use mathlib.Core.List.{List, [], ◌∷◌}
 use native.Mathlib.Numerals.{add-one}
@@ -29,9 +29,6 @@ pub record Gathering (ws : List (List ℕ)) (l out : List ℕ) (k n : ℕ) : Typ
   pub good : all_numbers ws ≡ all_numbers (drop k ws)
   pub count : length (take 18 (numbers_of ws)) ≡ n + length (take (18 - n) (numbers_of (drop k ws)))
   pub list : sets l 0 (take 18 (numbers_of ws)) ≡ sets out n (take (18 - n) (numbers_of (drop k ws)))
-
-pub gathering_first : (ws : List (List ℕ)) (l : List ℕ) → Gathering ws l l 0 0
-gathering_first ws l = record { room = omega arith; good = refl; count = omega arith; list = refl }
 
 module _ {ws : List (List ℕ)} {l out : List ℕ} {k n : ℕ} (g : Gathering ws l out k n) where
   pub gathering_end : length ws ≤ k → Gathered ws l out (Some n)

@@ -1,12 +1,11 @@
 -- Laws of a text that grows at its end, of any room. Assumes nothing.
-use Prim.Native.Nat.{ℕ, suc, ◌+◌, ◌-◌, ◌*◌, ◌≤◌, ◌<◌}
+use Prim.Native.Nat.{ℕ, ◌+◌, ◌-◌, ◌*◌, ◌≤◌}
 use mathlib.Core.Path.{◌≡◌, refl, sym, ◌∙◌, ap}
 use mathlib.Core.Bool.{Bool, true, false}
 use mathlib.Core.List.{List, [], ◌∷◌, ◌++◌, append_assoc, append-nil}
-use native.Mathlib.Numerals.{add-one}
 use native.Mathlib.Omega.{arith}
-use lib.ListN.{length, take, drop, get_or, length-append, length-take, drop_of_length-le}
-use lib.Seq.{take_all, take-append_seam, take-append-add, drop-cons}
+use lib.ListN.{length, take, drop, length-append, length-take, drop_of_length-le}
+use lib.Seq.{take_all, take-append_seam, take-append-add}
 use lib.Dec.{leb}
 use borrow.Author.Tests.{leb-true, leb-false}
 use Rattle.std.proofs.lemmas.List.{take-append-le}
@@ -66,20 +65,6 @@ pushed n b k s {old} {part} {l'} z h v p w =
 -- a row: with the numbers that are left, what stands comes to the whole
 pub record Rowing (n : ℕ) (name vs d : List ℕ) (i : ℕ) : Type 0 where
   pub left : take n (d ++ numbers_of (drop i vs)) ≡ take n (name ++ numbers_of vs)
-
-pub rowing_first : {n : ℕ} {name vs z d : List ℕ} → z ≡ [] → Adds n z name d → Rowing n name vs d 0
-rowing_first {n} {name} {vs} {z} {d} e p =
-    record { left = ap (λ (x : List ℕ). take n (x ++ numbers_of vs)) (adds_first e p) ∙ cut_twice n name (numbers_of vs) }
-
-pub rowing_more : {n : ℕ} {name vs d d' : List ℕ} {i v : ℕ} → Rowing n name vs d i → i < length vs → v ≡ get_or vs i 0 → Adds n d (field_text v) d'
-    → Rowing n name vs d' (i + 1)
-rowing_more {n} {name} {vs} {d} {d'} {i} {v} g h e p =
-    let rest : List ℕ = numbers_of (drop (suc i) vs) in
-    let t : numbers_of (drop i vs) ≡ field_text v ++ rest = rw (drop-cons vs i 0 h, ← e) refl in
-    let c : take n (d' ++ rest) ≡ take n (d ++ numbers_of (drop i vs))
-    = ap (λ (x : List ℕ). take n (x ++ rest)) p.is ∙ cut_twice n (d ++ field_text v) rest ∙ ap (take n) (append_assoc d (field_text v) rest)
-    ∙ ap (λ (x : List ℕ). take n (d ++ x)) (sym t) in
-    rw (add-one i) record { left = c ∙ g.left }
 
 pub rowing_end : {n : ℕ} {name vs d d' : List ℕ} {i : ℕ} → Rowing n name vs d i → length vs ≤ i → Adds n d (10 ∷ []) d' → d' ≡ take n (row_of name vs)
 unfolding row_of

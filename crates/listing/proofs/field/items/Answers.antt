@@ -1,11 +1,7 @@
 use Rattle.std.proofs.Common.{◌∙◌}
 use Rattle.reader.proofs.ItemsLaws.{gave_item, gave_refusal, gave_none}
-use Rattle.listing.proofs.LinesLaws.{left_first, left_item, left_bad, left_last}
+use Rattle.listing.proofs.LinesLaws.{left_item, left_bad, left_last}
 use Rattle.listing.proofs.field.items.Goals as goal
-
-pub loop-read-init : goal.loop-read-init
-loop-read-init c =
-    rw (c.into_iter-read-iterator.ensures.into_iter_gives, c.of-items.ensures.place) (c.of-items.ensures.frame, left_first _ _ _ _ _)
 
 pub returns-in_default : goal.returns-in_default
 returns-in_default c =

@@ -1,12 +1,8 @@
 use Rattle.std.proofs.Common.{◌∙◌, arith}
 use Rattle.codec.proofs.Stands.{bytes_of}
-use Rattle.reader.proofs.FrameLaws.{left_first, left_item, left_last, not-bad}
+use Rattle.reader.proofs.FrameLaws.{left_item, left_last, not-bad}
 use Rattle.reader.proofs.ItemsLaws.{gave_item, gave_refusal, gave_none}
 use Rattle.reader.proofs.copy.rewrite_items.Goals as goal
-
-pub loop-read-init : goal.loop-read-init
-loop-read-init c =
-    rw (c.into_iter-read-iterator.ensures.into_iter_gives, c.of-read-items.ensures.place) (c.of-read-items.ensures.frame, left_first _ _ c.requires.clean)
 
 pub returns-in_default : goal.returns-in_default
 returns-in_default c =

@@ -3,11 +3,8 @@ use Rattle.std.proofs.lemmas.List.{length_push}
 use Rattle.std.proofs.lemmas.Iterator.Adapters.{YieldsList-from_skip}
 use Rattle.std.proofs.lemmas.Iterator.Consumers.{YieldsList-at}
 use Rattle.std.proofs.lemmas.Iterator.Splits.{YieldsList-from_slice_split}
-use Rattle.script.proofs.PairsLaws.{turn, over, gathering_first, gathering_bad, gathering_kept, gathering_past, gathering_end}
+use Rattle.script.proofs.PairsLaws.{turn, over, gathering_bad, gathering_kept, gathering_past, gathering_end}
 use Rattle.script.proofs.pairs.read.Goals as goal
-
-pub loop-word-init : goal.loop-word-init
-loop-word-init c = gathering_first _ _
 
 pub returns-in_err-v : goal.returns-in_err-v
 returns-in_err-v c =
