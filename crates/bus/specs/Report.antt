@@ -1,5 +1,5 @@
 -- Reports (docs/RULES.md, "Answers", "Frame bytes", rules 4 and 5).
-use Rattle.std.specs.Prelude.{ℕ, ◌+◌, ◌%◌, Bool, true, false, not, ◌&&◌, ◌||◌, leb, ltb, eqb, Result, Ok}
+use Rattle.std.specs.Prelude.{ℕ, ◌+◌, ◌%◌, Bool, true, false, not, ◌&&◌, ◌||◌, leb, ltb, eqb, Some, Result, Ok}
 use Rattle.std.specs.Int.Bits.{bit_and, bit_or}
 use Rattle.codec.specs.Choice.{pick}
 use Rattle.codec.specs.Time.{time_ok}
@@ -7,7 +7,6 @@ use Rattle.codec.specs.Ident.{ident_ok, kind_of, most_of, channels_ok, flexray_r
 use Rattle.codec.specs.Item.{item_length}
 use Rattle.codec.specs.declared.time.Time.{Time}
 use Rattle.codec.specs.declared.ident.Ident.{Ident}
-use Rattle.std.specs.Prelude.{Some}
 use Rattle.framer.specs.Cause.{guard}
 use Rattle.framer.specs.declared.cause.Cause.{Cause}
 use Rattle.framer.specs.declared.offer.Offer.{Offer}

@@ -1,6 +1,6 @@
 -- A source (docs/RULES.md, "The engine", "Filters", rules 4 and 6).
 use Rattle.std.specs.Prelude.{ℕ, suc, Bool, true, false, not, ◌&&◌, ◌||◌, List, [], ◌∷◌, replicate, get_or, set, ltb, eqb, Option, Some, None, Result, Ok}
-use Rattle.codec.specs.Choice.{pick}
+use Rattle.codec.specs.Choice.{pick, opened}
 use Rattle.codec.specs.declared.ident.Kind.{Kind}
 use Rattle.codec.specs.declared.ident.Ident.{Ident}
 use Rattle.framer.specs.Cause.{guard}
@@ -106,12 +106,8 @@ unfoldable pub removed_filter : Source → ℕ → Source
 removed_filter s number = pick (ltb number 8) (with_places s (set s.places number Filter.Free)) s
 
 -- the state is known, and was never shown or differs from the last shown (rules 4 and 6)
-abbrev pub is_byte : Option ℕ → ℕ → Bool
-is_byte (Some x) byte = eqb x byte
-is_byte None byte = false
-
 unfoldable pub due : Source → Bool
-due s = s.known && not (is_byte s.shown s.state)
+due s = s.known && not (opened s.shown (λ byte. eqb byte s.state) false)
 
 -- a tick shows it for a started source from which no report was accepted since the last tick (rule 6)
 unfoldable pub tick_due : Source → Bool

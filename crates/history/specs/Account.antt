@@ -1,6 +1,6 @@
 -- What each source has to say: the first half of the ledger (rules 4 to 6).
 use Rattle.std.specs.Prelude.{ℕ, ◌+◌, ◌*◌, ◌/◌, ◌%◌, Bool, true, false, not, ◌&&◌, ◌||◌, List, [], ◌∷◌, ◌++◌, map, get_or, set, ltb, eqb, Option, Some, None}
-use Rattle.codec.specs.Choice.{pick}
+use Rattle.codec.specs.Choice.{pick, opened}
 use Rattle.codec.specs.declared.time.Time.{Time}
 use Rattle.codec.specs.declared.ident.Kind.{Kind}
 use Rattle.codec.specs.declared.ident.Ident.{Ident}
@@ -118,12 +118,8 @@ insists conflict = true
 insists (aggregated bits) = true
 
 -- known, and never shown or different from the last shown (rules 4 and 6)
-abbrev pub is_byte : Option ℕ → ℕ → Bool
-is_byte (Some x) byte = eqb x byte
-is_byte None byte = false
-
 unfoldable pub differs : Bool → ℕ → Account → Bool
-differs known state a = known && not (is_byte a.shown state)
+differs known state a = known && not (opened a.shown (λ byte. eqb byte state) false)
 
 -- the report shows the state even where no loss is pending (rule 4)
 unfoldable pub shows_by : Bound → Account → Bool
