@@ -21,6 +21,8 @@ impl Checker {
 }
 
 impl Job for Checker {
+    ghost body = { λ job. job.body };
+
     fn words(&self) -> Words {
         Words {
             name: b"check: ",

@@ -1,5 +1,6 @@
 // What one of the three programs does with a recording, and what it says.
-ghost use Rattle.std.specs.Prelude.{◌<◌, ◌≤◌, length};
+ghost use Rattle.std.specs.Prelude.{◌≡◌, ◌<◌, ◌≤◌, List, ℕ, length};
+ghost use Rattle.recording.specs.Pieces.{next_of, kept_of};
 
 use recording::field::Field;
 use recording::pieces::{Place, Step};
@@ -14,10 +15,16 @@ pub(crate) struct Words {
 }
 
 pub(crate) trait Job {
+    // The body of the field under way, as far as it is kept.
+    ghost body: { Self → List ℕ };
+
     fn words(&self) -> Words;
 
-    // Goes on with the rest of a piece, as far as the end of one field or of the piece.
+    // Goes on with the rest of a piece, as far as the end of one field or of the piece: what it comes to is what reading a
+    // recording in pieces does, whatever the job.
     fn next(&mut self, place: Place, piece: &[u8]) -> Step
+        ensures step { result ≡ next_of place (body self.old) piece.now }
+        ensures kept { body self.new ≡ kept_of place (body self.old) piece.now }
         ensures most { result.used ≤ length piece.now }
         ensures some { 0 < length piece.now → 0 < result.used };
 

@@ -22,6 +22,8 @@ impl Lister {
 }
 
 impl Job for Lister {
+    ghost body = { λ job. job.body };
+
     fn words(&self) -> Words {
         Words {
             name: b"list: ",

@@ -20,6 +20,8 @@ impl Mender {
 }
 
 impl Job for Mender {
+    ghost body = { λ job. job.body };
+
     fn words(&self) -> Words {
         Words {
             name: b"mend: ",

@@ -1,6 +1,6 @@
 -- No line of a field is left out where there is room for 65,536 bytes. Assumes nothing.
 use Prim.Native.Nat.{ℕ, zero, suc, ◌+◌, ◌-◌, ◌*◌, ◌/◌, ◌%◌, ◌^◌, ◌≤◌, ◌<◌}
-use mathlib.Core.Path.{◌≡◌, refl, ◌∙◌}
+use mathlib.Core.Path.{◌≡◌, refl, sym, ◌∙◌}
 use mathlib.Core.Bool.{Bool, true, false}
 use mathlib.Core.List.{List, [], ◌∷◌, append-nil}
 use native.Mathlib.Omega.{arith}
@@ -8,7 +8,7 @@ use lib.ListN.{length, take, length-append, length-take}
 use lib.Seq.{paste-zero}
 use lib.Dec.{leb, eqb}
 use lib.IntN.{ℤ, pos, negsuc, nat_abs}
-use borrow.Author.Tests.{leb-true, leb-false}
+use borrow.Author.Tests.{le-leb, leb-true, leb-false}
 use Rattle.codec.specs.Choice.{pick}
 use Rattle.codec.specs.Number.{Bytes}
 use Rattle.codec.specs.Item.{encode, load_length}
@@ -40,7 +40,7 @@ use Rattle.listing.proofs.FixedLaws.{fixed_length}
 use Rattle.listing.proofs.SpreadLaws.{pairs-length}
 use Rattle.listing.proofs.EscapeLaws.{note_length}
 use Rattle.listing.proofs.LinesLaws.{lines_past, lines_bad, lines_item}
-use Rattle.listing.specs.Line.{hex_text, time_text, sign_text, signed_text, placed_text, position_text, kind_text, is_fd, bus_text, id_digits, can_text, channels_text, flexray_text, error_text, ident_text, state_text, load_text, bytes_text, place_text, shown_text, front_text, item_line, frame_line, start_line, refused_line, skipped_line, note_line, plain, escape_of, spread}
+use Rattle.listing.specs.Line.{hex_text, time_text, sign_text, signed_text, placed_text, position_text, kind_text, is_fd, bus_text, id_digits, can_text, channels_text, flexray_text, error_text, ident_text, state_text, load_text, bytes_text, place_text, shown_text, front_text, item_line, frame_line, start_line, refused_line, skipped_line, note_fits, note_line, plain, escape_of, spread}
 use Rattle.listing.specs.Field.{Text, item_lines, good_lines, found_lines, field_lines, with, with_all, text_of, whole_of}
 
 text_as : {b b' : List ℕ} {a a' : ℕ} → b ≡ b' → a ≡ a' → ◌≡◌ {A = Text} (record { bytes = b; at = a }) (record { bytes = b'; at = a' })
@@ -221,6 +221,11 @@ spread-most (b ∷ bs) =
     let a = escape_most b in
     let r = spread-most bs in
     rw (length-append (escape_of b) (spread escape_of bs)) (omega arith)
+
+-- so there is room for a note where there is room for four times as many bytes
+pub fits_surely : (bs : List ℕ) (room : ℕ) → length bs ≤ room / 4 → true ≡ note_fits bs room
+unfolding note_fits
+fits_surely bs room h = sym (le-leb (length (spread escape_of bs)) room (omega (arith, spread-most bs)))
 
 module _ (m : Option Time) (tag n : ℕ) (body : List ℕ) (b : Bytes body) (h : length body ≤ 1472) where
   good_most : (f : Found) → length (text_of (good_lines m tag n f body)) ≤ 65536

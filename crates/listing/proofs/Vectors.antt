@@ -8,11 +8,13 @@ use Rattle.codec.specs.declared.time.Time.{Time}
 use Rattle.codec.specs.declared.ident.Kind.TheVariants as Kind
 use Rattle.codec.specs.declared.ident.Ident.{Ident}
 use Rattle.codec.specs.declared.item.Item.{Item}
-use Rattle.std.specs.Prelude.{Option, Some, None}
+use Rattle.std.specs.Prelude.{Option, Some, None, Err}
+use Rattle.recording.specs.declared.error.RecordError.{RecordError}
 use Rattle.tape.specs.Sample.{sample_of, placed_of}
 use Rattle.text.specs.Put.{letter_of, capital_of, decimals, decimal_of}
 use Rattle.text.specs.Draft.{field_text, row_of}
 use Rattle.listing.specs.Line.{fixed_of, hex_text, time_text, signed_text, position_text, bus_text, id_digits, can_text, channels_text, flexray_text, error_text, place_text, shown_text, front_text, item_line, frame_line, start_line, refused_line, skipped_line, end_line, plain, escape_of, note_line}
+use Rattle.listing.specs.Field.{found_lines}
 
 abbrev five : Time
 five = record { sec = 5; nano = 1 }
@@ -84,6 +86,11 @@ late = refl
 refused : refused_line 1 22 ≡ 114 ∷ 101 ∷ 102 ∷ 117 ∷ 115 ∷ 101 ∷ 100 ∷ 32 ∷ 49 ∷ 32 ∷ 50 ∷ 50 ∷ 10 ∷ []
 unfolding row_of field_text decimal_of decimals
 refused = refl
+
+-- "refused 2 77", of a field whose refusal has a number that none of the others has; nothing of its body is shown
+other_refused : found_lines None 2 3 (Err (RecordError.Other 77)) (1 ∷ []) ≡ (114 ∷ 101 ∷ 102 ∷ 117 ∷ 115 ∷ 101 ∷ 100 ∷ 32 ∷ 50 ∷ 32 ∷ 55 ∷ 55 ∷ 10 ∷ []) ∷ []
+unfolding row_of field_text decimal_of decimals
+other_refused = refl
 
 -- "skipped 9 65535"
 skipped : skipped_line 9 65535 ≡ 115 ∷ 107 ∷ 105 ∷ 112 ∷ 112 ∷ 101 ∷ 100 ∷ 32 ∷ 57 ∷ 32 ∷ 54 ∷ 53 ∷ 53 ∷ 51 ∷ 53 ∷ 10 ∷ []

@@ -9,7 +9,7 @@ ghost use Rattle.listing.specs.Line.{plain, escape_of, spread, note_fits, note_l
 fn plain(b: u8) -> bool
     ensures { result ≡ plain b }
 {
-    (b' '..=b'~').contains(&b) && b != b'\\'
+    (b' '..=b'~').contains(&b) & (b != b'\\')
 }
 
 #[tactic(auto, unfolding(crate::specs::Line::escape_of))]
@@ -43,11 +43,15 @@ fn lay_byte(out: &mut [u8], at: usize, b: u8) -> usize
     a + 2
 }
 
-// The escaped text fits so many places. Taken from them byte by byte: the sum itself may be too large to hold.
-#[tactic(auto, unfolding(crate::specs::Line::note_fits))]
+// The escaped text fits so many places. No byte takes more than four, so that where there is room for as many none is looked
+// at. Else taken from them byte by byte: the sum itself may be too large to hold.
+#[tactic(auto, using(crate::proofs::RoomLaws::fits_surely), unfolding(crate::specs::Line::note_fits))]
 fn fits(src: &[u8], room: usize) -> bool
     ensures { result ≡ note_fits src.now room }
 {
+    if src.len() <= room / 4 {
+        return true;
+    }
     let mut left = room;
     for &b in src {
         let Some(less) = left.checked_sub(width(b)) else {

@@ -37,13 +37,17 @@ pub fn start(out: &mut [u8], at: usize, t: Time) -> Option<usize>
 pub fn refused(out: &mut [u8], at: usize, tag: u8, answer: u8) -> Option<usize>
     ensures { Wrote true out.old at (refused_line tag answer) out.new result }
 {
-    Line::row(b"refused", &[tag as u64, answer as u64]).put(out, at)
+    let mut line = Line::new();
+    line.add_row(b"refused", &[tag as u64, answer as u64]);
+    line.put(out, at)
 }
 
 pub fn skipped(out: &mut [u8], at: usize, tag: u8, length: u16) -> Option<usize>
     ensures { Wrote true out.old at (skipped_line tag length) out.new result }
 {
-    Line::row(b"skipped", &[tag as u64, length as u64]).put(out, at)
+    let mut line = Line::new();
+    line.add_row(b"skipped", &[tag as u64, length as u64]);
+    line.put(out, at)
 }
 
 // Any number here too.

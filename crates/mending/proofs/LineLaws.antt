@@ -11,7 +11,7 @@ use Rattle.codec.specs.Choice.{pick}
 use Rattle.codec.specs.Number.{Wrote}
 use Rattle.std.specs.Prelude.{Option, Result, Ok, Err}
 use Rattle.text.specs.Draft.{row_of}
-use Rattle.text.proofs.DraftLaws.{row_is, row_most, row_put}
+use Rattle.text.proofs.DraftLaws.{row_most, row_put}
 use Rattle.recording.specs.Error.{number_of}
 use Rattle.recording.specs.declared.error.RecordError.{RecordError}
 use Rattle.recording.specs.declared.field.Found.{Found}
@@ -26,9 +26,6 @@ pub said : (name vs : List ℕ) {d l l' : List ℕ} {at : ℕ} {r : Option ℕ} 
     → Wrote true l at (row_of name vs) l' r
 said name vs e w p q = row_put {n = 128} 8 3 name vs e w p q (omega arith)
 
-pub row_said : (name vs : List ℕ) {d : List ℕ} → d ≡ take 128 (row_of name vs) → length name ≤ 8 → length vs ≤ 3 → d ≡ row_of name vs
-row_said name vs e p q = row_is {n = 128} 8 3 name vs e p q (omega arith)
-
 -- the line of a field that is not bad
 name_most : (found : Found) → length (name_of found) ≤ 8
 name_most (Found.Frame h) = omega arith
@@ -42,8 +39,12 @@ named_line tag n Found.Note = refl
 named_line tag n (Found.Start t) = refl
 named_line tag n Found.Skipped = refl
 
-pub named : (tag n : ℕ) (found : Found) {name d : List ℕ} → name ≡ name_of found → d ≡ take 128 (row_of name (tag ∷ n ∷ [])) → d ≡ found_line tag n (Ok found)
-named tag n found e f = row_said (name_of found) (tag ∷ n ∷ []) (rw e at f) (name_most found) (omega arith) ∙ named_line tag n found
+pub named_most : (found : Found) {name : List ℕ} → name ≡ name_of found → length name ≤ 8
+named_most found e = rw e (name_most found)
+
+pub named : (tag n : ℕ) (found : Found) {name l l' : List ℕ} {at : ℕ} {r : Option ℕ} → name ≡ name_of found → Wrote true l at (row_of name (tag ∷ n ∷ [])) l' r
+    → Wrote true l at (found_line tag n (Ok found)) l' r
+named tag n found e w = rw (← named_line tag n found, ← e) w
 
 pub rest_some : (n : ℕ) → (n ≡ 0 → ⊥) → rest_text n ≡ row_of (114 ∷ 101 ∷ 115 ∷ 116 ∷ []) (40 ∷ n ∷ [])
 unfolding rest_text

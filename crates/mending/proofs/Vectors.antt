@@ -1,15 +1,18 @@
 -- A worked recording, by computing (docs/RULES.md, "Mending").
 use Prim.Native.Nat.{ℕ}
 use mathlib.Core.Path.{◌≡◌, refl}
+use mathlib.Core.Bool.{false}
 use mathlib.Core.List.{List, [], ◌∷◌, ◌++◌}
 use Rattle.codec.specs.Number.{word, word_at, fits}
 use Rattle.codec.specs.Header.{read_header, time_at}
 use Rattle.reader.specs.Frame.{judge_of}
+use Rattle.std.specs.Prelude.{Err}
+use Rattle.recording.specs.declared.error.RecordError.{RecordError}
 use Rattle.recording.specs.File.{complete, along, fields_of, left_of, frame_found, note_found, start_found, short_of, verdict, keeps, findings_of}
 use Rattle.text.specs.Put.{decimals, decimal_of}
 use Rattle.text.specs.Draft.{field_text, row_of}
-use Rattle.mending.specs.Copy.{along_kept, copy_of}
-use Rattle.mending.specs.Check.{good_line, bad_line, unknown_line, rest_text, fields_line, checked_of}
+use Rattle.mending.specs.Copy.{stays, along_kept, copy_of}
+use Rattle.mending.specs.Check.{good_line, bad_line, unknown_line, found_line, rest_text, fields_line, tallied, checked_of}
 
 -- a note "ok", a frame of one byte, a tag 9 of one byte, a start of 1,000,000,000 ns, an empty note, and 2 of the 3 bytes before a body
 abbrev pub damaged : List ℕ
@@ -40,3 +43,14 @@ rest_vector = refl
 pub no_rest_vector : rest_text 0 ≡ []
 unfolding rest_text
 no_rest_vector = refl
+
+-- a refusal of any other number, as a caller may hand one in: "bad 2 77 3", counted as bad, and not kept
+pub other_line_vector : found_line 2 3 (Err (RecordError.Other 77)) ≡ 98 ∷ 97 ∷ 100 ∷ 32 ∷ 50 ∷ 32 ∷ 55 ∷ 55 ∷ 32 ∷ 51 ∷ 10 ∷ []
+unfolding row_of field_text decimal_of decimals
+other_line_vector = refl
+
+pub other_count_vector : tallied (record { good = 4; bad = 1 }) (Err (RecordError.Other 77)) ≡ record { good = 4; bad = 2 }
+other_count_vector = refl
+
+pub other_copy_vector : stays (Err (RecordError.Other 77)) ≡ false
+other_copy_vector = refl

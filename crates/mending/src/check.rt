@@ -1,6 +1,7 @@
 // What a checker says: a line for each field, what is left after them, and how many of each sort there were.
-ghost use Rattle.std.specs.Prelude.{◌≡◌, true};
+ghost use Rattle.std.specs.Prelude.{◌≡◌, ◌≤◌, length, true};
 ghost use Rattle.codec.specs.Number.{Wrote};
+ghost use Rattle.text.specs.Draft.{row_of};
 ghost use Rattle.recording.specs.Pieces.{sound_of};
 ghost use Rattle.mending.specs.Check.{name_of, found_line, rest_text, fields_line, tallied};
 
@@ -44,22 +45,27 @@ fn name(found: Found) -> &'static [u8]
     }
 }
 
-fn said(field: Field) -> Line
-    ensures { result ≡ found_line field.tag field.length field.found }
+// A line of a name and numbers, put together in place: each field has one.
+fn row(out: &mut [u8], at: usize, name: &[u8], vs: &[u64]) -> Option<usize>
+    requires name_most { length name.now ≤ 8 }
+    requires most { length vs.now ≤ 3 }
+    ensures { Wrote true out.old at (row_of name.now vs.now) out.new result }
 {
-    let tag = field.tag as u64;
-    let length = field.length as u64;
-    match field.found {
-        Ok(found) => Line::row(name(found), &[tag, length]),
-        Err(why) => Line::row(b"bad", &[tag, u8::from(why) as u64, length]),
-    }
+    let mut line = Line::new();
+    line.add_row(name, vs);
+    line.put(out, at)
 }
 
 // The line of a field that is complete. An output that is too short for it is left as it was.
 pub fn line(out: &mut [u8], at: usize, field: Field) -> Option<usize>
     ensures { Wrote true out.old at (found_line field.tag field.length field.found) out.new result }
 {
-    said(field).put(out, at)
+    let tag = field.tag as u64;
+    let length = field.length as u64;
+    match field.found {
+        Ok(found) => row(out, at, name(found), &[tag, length]),
+        Err(why) => row(out, at, b"bad", &[tag, u8::from(why) as u64, length]),
+    }
 }
 
 // How many bytes the end has cut off from a field, where it has.

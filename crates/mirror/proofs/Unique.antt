@@ -1,6 +1,7 @@
 -- Any two outcomes that a public function's own contract permits coincide.
 use mathlib.Core.Path.{◌≡◌, sym, ◌∙◌}
 use Rattle.mirror.proofs.engine.fresh.Reads as fresh
+use Rattle.mirror.proofs.engine.beside.Reads as beside
 use Rattle.mirror.proofs.engine.Engine.discards.Reads as discards
 use Rattle.mirror.proofs.engine.Engine.can.Reads as can
 use Rattle.mirror.proofs.engine.Engine.lin.Reads as lin
@@ -28,6 +29,9 @@ use Rattle.mirror.proofs.engine.Engine.tick.Reads as tick
 
 pub fresh_unique : (κs : _) (a : _) (r r' : _) (x x' : _) → fresh.Post κs a r x → fresh.Post κs a r' x' → r ≡ r'
 fresh_unique κs a r r' x x' p q = p ∙ sym q
+
+pub beside_unique : (κs : _) (a : _) (r r' : _) (x x' : _) → beside.Post κs a r x → beside.Post κs a r' x' → r ≡ r'
+beside_unique κs a r r' x x' p q = p ∙ sym q
 
 pub discards_unique : (κs : _) (a : _) (r r' : _) (x x' : _) → discards.Post κs a r x → discards.Post κs a r' x' → r ≡ r'
 discards_unique κs a r r' x x' p q = p ∙ sym q

@@ -1,6 +1,7 @@
 // The engine, by value: its sources, and the framer that mirrors what they hand over.
 ghost use Rattle.std.specs.Prelude.{◌≡◌};
 ghost use Rattle.codec.specs.Number.{Below};
+ghost use Rattle.mirror.specs.Call.{beside};
 ghost use Rattle.mirror.specs.Engine.{no_sources, fresh_engine, index_of, cause_of, discards_of, failures_of};
 
 use bus::source::Source;
@@ -22,6 +23,13 @@ pub struct Engine {
 pub struct Outcome<T> {
     pub engine: Engine,
     pub answer: Result<T, Cause>,
+}
+
+// The number beside an answer (a filter's, a frame's length, a count, nanoseconds): 0 beside a refusal.
+pub fn beside(answer: Result<u64, Cause>) -> u64
+    ensures { result ≡ beside (λ n. n) answer }
+{
+    answer.unwrap_or(0)
 }
 
 #[tactic(auto, unfolding(crate::specs::Engine::no_sources))]

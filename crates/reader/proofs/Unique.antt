@@ -7,6 +7,11 @@ use Rattle.std.specs.Prelude.{Result, Ok, Err, MatchResult}
 use mathlib.Core.List.{List}
 use Rattle.reader.specs.Items.{Gives}
 use Rattle.reader.proofs.answer.number.Reads as answer
+use Rattle.reader.proofs.answer.judged_number.Reads as judged-number
+use Rattle.reader.proofs.answer.judged_header.Reads as judged-header
+use Rattle.reader.proofs.answer.stepped_number.Reads as stepped-number
+use Rattle.reader.proofs.answer.rewritten_number.Reads as rewritten-number
+use Rattle.reader.proofs.answer.rewritten_length.Reads as rewritten-length
 use Rattle.reader.proofs.frame.judge.Reads as judge
 use Rattle.reader.proofs.place.step.Reads as step
 use Rattle.reader.proofs.place.item_at.Reads as item-at
@@ -34,6 +39,21 @@ payload_at_unique κs a r r' x x' p q = p ∙ sym q
 
 pub rewrite_unique : (κs : _) (a : _) (r r' : _) (x x' : _) → rewrite.Post κs a r x → rewrite.Post κs a r' x' → (r ≡ r') × (x.1.0.now ≡ x'.1.0.now)
 rewrite_unique κs a r r' x x' p q = (p.0 ∙ sym q.0, p.1 ∙ sym q.1)
+
+pub judged_number_unique : (κs : _) (a : _) (r r' : _) (x x' : _) → judged-number.Post κs a r x → judged-number.Post κs a r' x' → r ≡ r'
+judged_number_unique κs a r r' x x' p q = p ∙ sym q
+
+pub judged_header_unique : (κs : _) (a : _) (r r' : _) (x x' : _) → judged-header.Post κs a r x → judged-header.Post κs a r' x' → r ≡ r'
+judged_header_unique κs a r r' x x' p q = p ∙ sym q
+
+pub stepped_number_unique : (κs : _) (a : _) (r r' : _) (x x' : _) → stepped-number.Post κs a r x → stepped-number.Post κs a r' x' → r ≡ r'
+stepped_number_unique κs a r r' x x' p q = p ∙ sym q
+
+pub rewritten_number_unique : (κs : _) (a : _) (r r' : _) (x x' : _) → rewritten-number.Post κs a r x → rewritten-number.Post κs a r' x' → r ≡ r'
+rewritten_number_unique κs a r r' x x' p q = p ∙ sym q
+
+pub rewritten_length_unique : (κs : _) (a : _) (r r' : _) (x x' : _) → rewritten-length.Post κs a r x → rewritten-length.Post κs a r' x' → r ≡ r'
+rewritten_length_unique κs a r r' x x' p q = p ∙ sym q
 
 pub number_unique : (κs : _) (a : _) (r r' : _) (x x' : _) → number.Post κs a r x → number.Post κs a r' x' → r ≡ r'
 number_unique κs a r r' x x' p q = p ∙ sym q

@@ -7,7 +7,9 @@ mod frame;
 mod items;
 mod place;
 
-pub use answer::number;
+pub use answer::{
+    judged_header, judged_number, number, rewritten_length, rewritten_number, stepped_number,
+};
 pub use copy::{RewriteError, rewrite};
 pub use frame::judge;
 pub use items::Items;

@@ -3,6 +3,7 @@ use Prim.Native.Nat.{ℕ}
 use mathlib.Core.Path.{◌≡◌, refl}
 use mathlib.Core.List.{List, [], ◌∷◌, ◌++◌}
 use Rattle.recording.specs.File.{listing_of, complete, along, fields_of, left_of, frame_found, note_found, short_of, start_found, verdict, keeps, findings_of}
+use Rattle.recording.specs.Error.{number_of}
 use Rattle.recording.specs.declared.error.RecordError.{RecordError}
 use Rattle.recording.specs.declared.field.Found.{Found}
 use Rattle.std.specs.Prelude.{Ok, Err}
@@ -73,3 +74,7 @@ longer_start body = refl
 pub cut_only : listing_of (1 ∷ 5 ∷ 193 ∷ 0 ∷ []) ≡ record { findings = []; answer = Err RecordError.Cut; skipped = 0 }
 unfolding listing_of findings_of fields_of left_of along complete
 cut_only = refl
+
+-- a number that none of the others has is told as it is
+pub other_number : number_of (RecordError.Other 77) ≡ 77
+other_number = refl

@@ -17,6 +17,8 @@ pub enum RecordError {
     Long,
     // a start that is no ten bytes, or whose time is out of range
     Start,
+    // any other number; no call of this crate gives it, and who is handed a field with it tells it as it is
+    Other(u8),
 }
 
 impl From<Refusal> for RecordError {
@@ -37,6 +39,7 @@ impl From<RecordError> for u8 {
             RecordError::Cut => 40,
             RecordError::Long => 41,
             RecordError::Start => 42,
+            RecordError::Other(n) => n,
         }
     }
 }

@@ -38,7 +38,7 @@ pub(crate) fn done(outcome: Outcome<()>, out: &mut [u8], at: usize) -> Made {
 
 // A report or a tick.
 pub(crate) fn timed(outcome: Outcome<Nanos>, out: &mut [u8], at: usize) -> Made {
-    let back = outcome.answer.unwrap_or(Nanos(0));
+    let back = Nanos(mirror::engine::beside(outcome.answer.map(|b| b.0)));
     answered(
         outcome.engine,
         script::answer::timed(out, at, reader::number(outcome.answer), back),
@@ -54,17 +54,22 @@ pub(crate) fn numbered(
 ) -> Made {
     answered(
         engine,
-        script::answer::numbered(out, at, reader::number(answer), answer.unwrap_or(0)),
+        script::answer::numbered(
+            out,
+            at,
+            reader::number(answer),
+            mirror::engine::beside(answer),
+        ),
     )
 }
 
 fn take_in(engine: Engine, room: &mut [u8], frame: &mut [u8], out: &mut [u8], at: usize) -> Made {
     let outcome = engine.take(room);
-    let length = outcome.answer.unwrap_or(0);
-    codec::number::put_bytes(frame, 0, text::part::front(room, length));
+    let length = mirror::engine::beside(outcome.answer.map(|n| n as u64));
+    codec::number::put_bytes(frame, 0, text::part::front(room, length as usize));
     Made {
         engine: outcome.engine,
-        put: script::answer::taken(out, at, reader::number(outcome.answer), length as u64, room),
+        put: script::answer::taken(out, at, reader::number(outcome.answer), length, room),
         taken: outcome.answer.ok(),
     }
 }

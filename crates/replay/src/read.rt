@@ -5,12 +5,12 @@ use script::call::Call;
 
 // A payload line has the number of the step at the same place.
 fn payload(out: &mut [u8], at: usize, frame: &[u8], place: usize) -> Option<usize> {
-    let answer = reader::number(reader::step(frame, place));
+    let answer = reader::stepped_number(reader::step(frame, place));
     script::answer::with_bytes(out, at, answer, reader::payload(frame, place))
 }
 
 fn rewrite_in(out: &mut [u8], at: usize, frame: &[u8], room: &mut [u8]) -> Option<usize> {
-    let answer = reader::number(reader::rewrite(frame, room));
+    let answer = reader::rewritten_number(reader::rewrite(frame, room));
     script::answer::with_bytes(out, at, answer, room)
 }
 

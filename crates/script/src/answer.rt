@@ -4,7 +4,6 @@ ghost use Rattle.std.specs.Prelude.{◌≡◌, true, ◌++◌, length};
 ghost use Rattle.codec.specs.Number.{Wrote};
 ghost use Rattle.text.specs.Put.{decimal_of, hex_of};
 ghost use Rattle.text.specs.Draft.{Adds, field_text};
-ghost use Rattle.reader.specs.Answer.{judged_number};
 ghost use Rattle.script.specs.Answer.{time_text, state_text, flexray_text, error_text, ident_text, load_text, placed_text, item_text, judged_text, stepped_text, bad_text, numbered_text, back_text, timed_text, bytes_text, taken_text};
 
 use codec::header::Header;
@@ -99,28 +98,11 @@ fn item(draft: &mut Answer, it: Item, n: usize)
     load(draft, it.carries, n)
 }
 
-// What stands beside a refusal in an answer line (docs/SCRIPT.md).
-const NO_HEADER: Header = Header {
-    sequence: 0,
-    time: Time { sec: 0, nano: 0 },
-    length: 0,
-};
-
-// `reader::number` of one error: its clause is a case each, and this one is the definition.
-fn answer_of(judged: Result<Header, Refusal>) -> u8
-    ensures { result ≡ judged_number judged }
-{
-    match judged {
-        Ok(_) => 0,
-        Err(why) => u8::from(why),
-    }
-}
-
 fn lay_judged(draft: &mut Answer, judged: Result<Header, Refusal>)
     ensures { Adds 256 draft.old (judged_text judged) draft.new }
 {
-    let answer = answer_of(judged);
-    let header = judged.unwrap_or(NO_HEADER);
+    let answer = reader::judged_number(judged);
+    let header = reader::judged_header(judged);
     let t = header.time;
     draft.decimal(u64::from(answer));
     draft.field(u64::from(header.sequence));

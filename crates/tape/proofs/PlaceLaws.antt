@@ -8,6 +8,7 @@ use lib.Dec.{leb, ltb}
 use lib.IntN.{ℤ, pos, negsuc, nat_abs, ◌-ℤ◌}
 use borrow.Author.Tests.{lt-ltb, le-ltb, le-leb, lt-leb, ltb-true, ltb-false, leb-true, leb-false}
 use Rattle.std.specs.Prelude.{Result, Ok, Err}
+use Rattle.codec.specs.Time.{ns}
 use Rattle.codec.specs.declared.time.Time.{Time}
 use Rattle.codec.proofs.Opened.{never}
 use Rattle.tape.specs.Sample.{apart_of, sample_of, Plays, SameOrNext, begins_of, within_day, placed_of, position_of}
@@ -22,6 +23,29 @@ apart_after (suc m) t h = simp (le-ltb t (suc m) h)
 pub apart_before : (s t : ℕ) → t < s → pos t -ℤ pos s ≡ negsuc (s - suc t)
 apart_before zero t h = never (omega arith)
 apart_before (suc m) t h = simp (lt-ltb t (suc m) h)
+
+-- only the difference counts
+pub shift : (x y s t : ℕ) → s + y ≡ t + x → pos y -ℤ pos x ≡ pos t -ℤ pos s
+shift x y s t h = go (ltb y x) refl
+  where
+    go : (b : Bool) → ltb y x ≡ b → pos y -ℤ pos x ≡ pos t -ℤ pos s
+    go true e =
+        let k : y < x = ltb-true y x e in
+        let d : x - suc y ≡ s - suc t = omega arith in
+        rw (apart_before x y k, apart_before s t (omega arith)) (ap negsuc d)
+    go false e =
+        let k : x ≤ y = ltb-false y x e in
+        let d : y - x ≡ t - s = omega arith in
+        rw (apart_after x y k, apart_after s t (omega arith)) (ap pos d)
+
+-- so both may be counted from the earlier of their seconds
+pub from_start : (start time : Time) → start.sec ≤ time.sec
+    → placed_of (pos ((time.sec - start.sec) * 1000000000 + time.nano) -ℤ pos start.nano) ≡ position_of start time
+from_start start time h = ap placed_of (shift start.nano ((time.sec - start.sec) * 1000000000 + time.nano) (ns start) (ns time) (omega arith))
+
+pub from_time : (start time : Time) → time.sec ≤ start.sec
+    → placed_of (pos time.nano -ℤ pos ((start.sec - time.sec) * 1000000000 + start.nano)) ≡ position_of start time
+from_time start time h = ap placed_of (shift ((start.sec - time.sec) * 1000000000 + start.nano) time.nano (ns start) (ns time) (omega arith))
 
 -- what is answered: the sample within 24 hours, and else 61
 pub near : (d : ℤ) → nat_abs d ≤ 86400000000000 → placed_of d ≡ Ok (sample_of d)

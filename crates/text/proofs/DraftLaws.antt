@@ -62,6 +62,11 @@ pushed n b k s {old} {part} {l'} z h v p w =
     = ap (λ (i : ℕ). take i (take k b ++ s)) (sym q) ∙ take-append-add (take k b) s (n - k) ∙ ap (λ (x : List ℕ). take k b ++ x) (sym p) in
     rw (← v) record { is = f ∙ sym g }
 
+-- the bytes of a push that fits
+pub pushed_whole : (n : ℕ) (b : List ℕ) (k : ℕ) (s : List ℕ) {old l' : List ℕ} {r : Option ℕ} → length b ≡ n → k ≤ n → take k b ≡ old → length s ≤ n - k
+    → Wrote true b k s l' r → Adds n old s (take (k + length s) l')
+pushed_whole n b k s z h v f w = pushed n b k s z h v (sym (take_all (n - k) s f)) w
+
 -- a row: with the numbers that are left, what stands comes to the whole
 pub record Rowing (n : ℕ) (name vs d : List ℕ) (i : ℕ) : Type 0 where
   pub left : take n (d ++ numbers_of (drop i vs)) ≡ take n (name ++ numbers_of vs)
@@ -72,6 +77,14 @@ rowing_end {n} {name} {vs} {d} {d'} {i} g h p =
     let f : take n d ≡ take n (name ++ numbers_of vs)
     = ap (take n) (sym (append-nil d)) ∙ ap (λ (x : List ℕ). take n (d ++ numbers_of x)) (sym (drop_of_length-le vs h)) ∙ g.left in
     p.is ∙ sym (cut_twice n d (10 ∷ [])) ∙ ap (λ (x : List ℕ). take n (x ++ (10 ∷ []))) f ∙ cut_twice n (name ++ numbers_of vs) (10 ∷ [])
+
+-- behind what stood before
+pub rowing_adds : {n : ℕ} {old vs d d' : List ℕ} {i : ℕ} (name : List ℕ) → Rowing n (old ++ name) vs d i → length vs ≤ i → Adds n d (10 ∷ []) d'
+    → Adds n old (row_of name vs) d'
+unfolding row_of
+rowing_adds {n} {old} {vs} name g h p =
+    let e = ap (λ (x : List ℕ). take n (x ++ (10 ∷ []))) (append_assoc old name (numbers_of vs)) in
+    record { is = rowing_end {name = old ++ name} g h p ∙ e ∙ ap (take n) (append_assoc old (name ++ numbers_of vs) (10 ∷ [])) }
 
 -- a number has at most 20 digits
 pub field_length : (v : ℕ) → length (field_text v) ≤ 21
@@ -97,3 +110,8 @@ row_is {n} j k name vs e p q h = e ∙ take_all n (row_of name vs) (omega (arith
 pub row_put : {n : ℕ} (j k : ℕ) (name vs : List ℕ) {d l l' : List ℕ} {at : ℕ} {r : Option ℕ} → d ≡ take n (row_of name vs) → Wrote true l at d l' r
     → length name ≤ j → length vs ≤ k → j + 21 * k + 1 ≤ n → Wrote true l at (row_of name vs) l' r
 row_put j k name vs e w p q h = rw (row_is j k name vs e p q h) at w
+
+-- and the same of one that was put together in an empty text
+pub row_wrote : {n : ℕ} (j k : ℕ) (name vs : List ℕ) {z d l l' : List ℕ} {at : ℕ} {r : Option ℕ} → z ≡ [] → Adds n z (row_of name vs) d → Wrote true l at d l' r
+    → length name ≤ j → length vs ≤ k → j + 21 * k + 1 ≤ n → Wrote true l at (row_of name vs) l' r
+row_wrote j k name vs e p w a b h = row_put j k name vs (adds_first e p) w a b h

@@ -101,6 +101,10 @@ decimals-length (suc n) v = go (decimals-length n (v / 10)) (ltb v 10)
     go h true = omega arith
     go h false = simp length-append (omega arith)
 
+pub decimal_digit : (v : ℕ) → v < 10 → (v + 48) ∷ [] ≡ decimal_of v
+unfolding decimal_of decimals
+decimal_digit v h = rw (lt-ltb v 10 h)
+
 pub decimal_length : (v : ℕ) → length (decimal_of v) ≤ 20
 unfolding decimal_of
 decimal_length v = decimals-length 20 v

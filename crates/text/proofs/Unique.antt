@@ -16,6 +16,7 @@ use Rattle.text.proofs.draft.Draft.new.Reads as new
 use Rattle.text.proofs.draft.Draft.push.Reads as push
 use Rattle.text.proofs.draft.Draft.decimal.Reads as added
 use Rattle.text.proofs.draft.Draft.field.Reads as field
+use Rattle.text.proofs.draft.Draft.add_row.Reads as add_row
 use Rattle.text.proofs.draft.Draft.row.Reads as row
 use Rattle.text.proofs.draft.Draft.as_slice.Reads as as_slice
 use Rattle.text.proofs.draft.Draft.put.Reads as put
@@ -65,6 +66,9 @@ module _ (n : _) (fits : _) where
 
   pub push_unique : (κs : _) (a : _) (r r' : _) (x x' : _) → push.Post n fits κs a r x → push.Post n fits κs a r' x' → x.0.now ≡ x'.0.now
   push_unique κs a r r' x x' p q = p.is ∙ sym q.is
+
+  pub add_row_unique : (κs : _) (a : _) (r r' : _) (x x' : _) → add_row.Post n fits κs a r x → add_row.Post n fits κs a r' x' → x.0.now ≡ x'.0.now
+  add_row_unique κs a r r' x x' p q = p.is ∙ sym q.is
 
   pub added_unique : (κs : _) (a : _) (r r' : _) (x x' : _) → added.Post n fits κs a r x → added.Post n fits κs a r' x' → x.0.now ≡ x'.0.now
   added_unique κs a r r' x x' p q = p.is ∙ sym q.is

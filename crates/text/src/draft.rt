@@ -35,7 +35,19 @@ impl<const N: usize> Draft<N> {
         }
     }
 
+    // What fits, as nearly all that is pushed does, goes in by its own length: where that is known, no call is made.
     pub fn push(&mut self, s: &[u8])
+        ensures { Adds N self.old s.now self.new }
+    {
+        if N - self.len < s.len() {
+            return self.cut(s);
+        }
+        codec::number::put_bytes(&mut self.bytes, self.len, s);
+        self.len += s.len();
+    }
+
+    // As much of a text as there is room for.
+    fn cut(&mut self, s: &[u8])
         ensures { Adds N self.old s.now self.new }
     {
         let part = crate::part::front(s, N - self.len);
@@ -43,10 +55,13 @@ impl<const N: usize> Draft<N> {
         self.len += part.len();
     }
 
-    // As `put::decimal`, whose write may not fit and says so.
+    // As `put::decimal`, whose write may not fit and says so. Most numbers of a line are one digit, which is pushed as it is.
     pub fn decimal(&mut self, v: u64)
         ensures { Adds N self.old (decimal_of v) self.new }
     {
+        if v < 10 {
+            return self.push(&[v as u8 + 48]);
+        }
         let mut digits = [0u8; 20];
         let start = crate::put::spell(&mut digits, v);
         self.push(&digits[start..])
@@ -61,15 +76,22 @@ impl<const N: usize> Draft<N> {
     }
 
     // A line of a name and numbers, each behind a space.
+    pub fn add_row(&mut self, name: &[u8], vs: &[u64])
+        ensures { Adds N self.old (row_of name.now vs.now) self.new }
+    {
+        self.push(name);
+        for &v in vs {
+            self.field(v);
+        }
+        self.push(b"\n")
+    }
+
+    // That alone.
     pub fn row(name: &[u8], vs: &[u64]) -> Self
         ensures { result ≡ take N (row_of name.now vs.now) }
     {
         let mut line = Self::new();
-        line.push(name);
-        for &v in vs {
-            line.field(v);
-        }
-        line.push(b"\n");
+        line.add_row(name, vs);
         line
     }
 

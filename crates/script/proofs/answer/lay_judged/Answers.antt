@@ -9,4 +9,4 @@ pub returns : goal.returns
 unfolding judged_text
 returns c =
     adds_as (adds_then (adds_then (adds_then (adds_as c.decimal.ensures (ap decimal_of c.from.ensures)) (adds_as c.field.ensures (ap field_text c.from-2.ensures))) c.time.ensures) (adds_as c.field-2.ensures (ap field_text c.from-3.ensures)))
-    (rw (c.answer_of-answer.ensures, c.unwrap_or-header.ensures))
+    (rw (c.judged_number-answer.ensures, c.judged_header-header.ensures))
