@@ -7,6 +7,7 @@ use std::io::{Read, Write};
 use text::draft::Draft;
 
 // The fields that end in this piece, and then nothing is held back: who watches sees what was read.
+#[tactic(auto, using(recording::proofs::PlaceLaws::step_most, recording::proofs::PlaceLaws::step_some))]
 fn take<W: Write, J: Job>(
     output: &mut W,
     job: &mut J,

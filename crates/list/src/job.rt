@@ -1,5 +1,5 @@
 // What one of the three programs does with a recording, and what it says.
-ghost use Rattle.std.specs.Prelude.{◌≡◌, ◌<◌, ◌≤◌, List, ℕ, length};
+ghost use Rattle.std.specs.Prelude.{◌≡◌, List, ℕ};
 ghost use Rattle.recording.specs.Pieces.{next_of, kept_of};
 
 use recording::field::Field;
@@ -24,9 +24,7 @@ pub(crate) trait Job {
     // recording in pieces does, whatever the job.
     fn next(&mut self, place: Place, piece: &[u8]) -> Step
         ensures step { result ≡ next_of place (body self.old) piece.now }
-        ensures kept { body self.new ≡ kept_of place (body self.old) piece.now }
-        ensures most { result.used ≤ length piece.now }
-        ensures some { 0 < length piece.now → 0 < result.used };
+        ensures kept { body self.new ≡ kept_of place (body self.old) piece.now };
 
     // Writes what is said of a field that is complete, from an index on, and answers where that ends.
     fn found(&mut self, field: Field, out: &mut [u8], at: usize) -> usize;
